@@ -1,0 +1,24 @@
+-- `xor` meets its contract: refused, or done by `inner::xor`. Assumes nothing.
+use borrow.Author.Needs.{needs}
+use mathlib.Core.Path.{_≡_, sym, _∙_}
+use Rattle.bitmaps.proofs.Checks.{changed-refused, changed-done, pair-accepted}
+use Rattle.bitmaps.proofs.xor.Statement.{statement}
+use Rattle.bitmaps.proofs.xor.Tie as tie
+
+pair-fault-requires : tie.Need-pair-fault-requires
+pair-fault-requires c κs = search needs
+
+returns : tie.Need-returns
+returns c = changed-refused _ _ _ _ (c .before .pair-fault .ensures) (c .if1 .taken)
+
+xor-requires : tie.Need-xor-requires
+xor-requires c κs = sym (pair-accepted _ _ _ (sym (c .before .before .pair-fault .ensures) ∙ c .before .if1 .left) .1)
+
+same-length : tie.Need-same-length
+same-length c = search needs
+
+returns-2 : tie.Need-returns-2
+returns-2 c = changed-done _ _ _ _ (sym (c .before .before .before .before .before .pair-fault .ensures) ∙ c .before .before .before .before .if1 .left) (c .before .before .xor .ensures)
+
+pub xor-spec : {M : Type 1} → statement M
+xor-spec = tie.close (tie.spec pair-fault-requires returns xor-requires same-length returns-2)

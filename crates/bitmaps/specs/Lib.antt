@@ -1,0 +1,4 @@
+-- What the sets of ids mean.
+pub mod Words
+pub mod Walk
+pub mod Answers

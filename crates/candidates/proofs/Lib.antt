@@ -1,0 +1,4 @@
+pub mod Spills
+pub mod Bases
+pub mod Laws
+pub mod Words

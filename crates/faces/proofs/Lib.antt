@@ -1,0 +1,5 @@
+pub mod Rank
+pub mod First
+pub mod Laws
+pub mod Picks
+pub mod Answer

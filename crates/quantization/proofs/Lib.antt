@@ -1,0 +1,5 @@
+pub mod Sets
+pub mod Bytes
+pub mod Halves
+pub mod Stored
+pub mod Copies

@@ -1,0 +1,4 @@
+pub mod Bf16
+pub mod Bytes
+pub mod Stored
+pub mod Copies

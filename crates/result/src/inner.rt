@@ -1,0 +1,124 @@
+// Feeding with no test of the 256 places, for callers that know that the set is well formed.
+ghost use mathlib.Core.Path.{_≡_};
+ghost use mathlib.Core.List.{_++_};
+ghost use Prim.Native.Nat.{_≤_, _<_};
+ghost use lib.ListN.{drop, take, length};
+ghost use Rattle.result.specs.Lists.{insertAt};
+ghost use Rattle.result.specs.Ranked.{entry};
+ghost use Rattle.result.specs.Places.{Found, fullAbove};
+ghost use Rattle.result.specs.Sets.{fedSet, entriesOf};
+ghost use Rattle.result.specs.Puts.{putIn};
+use super::ResultSet;
+
+// Where a new entry goes: at a place, or nowhere, since its id is met first.
+enum Place {
+    At(usize),
+    Held,
+}
+
+// Whether a list of len is full and its last score is greater than the new one. A loop that feeds many candidates may ask this first, and then
+// need only raise checked: so it moves no set about for the entries that change nothing else.
+pub fn closed_to(sims: &[f32], len: usize, k: usize, similarity: f32) -> bool
+    requires { ⌜ len ≤ length (now sims) ⌝ }
+    ensures { λ r. ⌜ r ≡ fullAbove len k (now (sims .entry)) similarity ⌝ }
+{
+    if len != k {
+        return false;
+    }
+    if len == 0 {
+        return false;
+    }
+    let last = sims[len - 1];
+    last > similarity
+}
+
+// Where the entry goes in a list of len.
+fn place_of<'a>(ids: &'a [u32], sims: &'a [f32], len: usize, id: u32, similarity: f32) -> Place
+    requires { ⌜ (len ≤ length (now ids)) × (len ≤ length (now sims)) ⌝ }
+    ensures { λ r. ⌜ Found len (now (ids .entry)) (now (sims .entry)) (entry id similarity) r ⌝ }
+{
+    let mut insert = 0;
+    while insert < len {
+        if ids[insert] == id {
+            return Place::Held;
+        }
+        if sims[insert] < similarity {
+            return Place::At(insert);
+        }
+        insert += 1;
+    }
+    Place::At(len)
+}
+
+// Puts x in at `at`, and moves what stood from there on along by one, up to `to`: what stood at `to` - 1 falls out.
+fn push_id(ids: &mut [u32; 256], at: usize, to: usize, x: u32)
+    requires { ⌜ (at < to) × (to ≤ 256) ⌝ }
+    requires { ⌜ length (now ids) ≡ 256 ⌝ }
+    ensures { λ r. ⌜ now (ids .exit) ≡ take to (insertAt at x (now (ids .entry))) ++ drop to (now (ids .entry)) ⌝ }
+{
+    let mut carry = x;
+    let mut j = at;
+    while j < to {
+        let t = ids[j];
+        ids[j] = carry;
+        carry = t;
+        j += 1;
+    }
+}
+
+// The same for the scores.
+fn push_sim(sims: &mut [f32; 256], at: usize, to: usize, x: f32)
+    requires { ⌜ (at < to) × (to ≤ 256) ⌝ }
+    requires { ⌜ length (now sims) ≡ 256 ⌝ }
+    ensures { λ r. ⌜ now (sims .exit) ≡ take to (insertAt at x (now (sims .entry))) ++ drop to (now (sims .entry)) ⌝ }
+{
+    let mut carry = x;
+    let mut j = at;
+    while j < to {
+        let t = sims[j];
+        sims[j] = carry;
+        carry = t;
+        j += 1;
+    }
+}
+
+// The set with the entry at a place of it, and the list cut to k.
+fn put(mut set: ResultSet, at: usize, id: u32, similarity: f32) -> ResultSet
+    requires { ⌜ (set .len ≤ set .k) × (set .k ≤ 256) ⌝ }
+    requires { ⌜ at ≤ set .len ⌝ }
+    ensures { λ r. ⌜ r ≡ putIn set (insertAt at (entry id similarity) (entriesOf set)) ⌝ }
+{
+    let len = set.len;
+    let k = set.k;
+    if len < k {
+        push_id(&mut set.ids, at, len + 1, id);
+        push_sim(&mut set.sims, at, len + 1, similarity);
+        set.len = len + 1;
+        return set;
+    }
+    if at < k {
+        push_id(&mut set.ids, at, k, id);
+        push_sim(&mut set.sims, at, k, similarity);
+        return set;
+    }
+    set
+}
+
+// The set after the entry, which is counted whether or not it is placed. Most candidates meet a full set with a greater last score, so that is
+// looked at first.
+pub fn ranked(mut set: ResultSet, id: u32, similarity: f32) -> ResultSet
+    requires { ⌜ (set .len ≤ set .k) × (set .k ≤ 256) ⌝ }
+    requires { ⌜ set .checked < 4294967295 ⌝ }
+    ensures { λ r. ⌜ r ≡ fedSet set (entry id similarity) ⌝ }
+{
+    let len = set.len;
+    let k = set.k;
+    set.checked = set.checked + 1;
+    if closed_to(&set.sims, len, k, similarity) {
+        return set;
+    }
+    match place_of(&set.ids, &set.sims, len, id, similarity) {
+        Place::Held => set,
+        Place::At(at) => put(set, at, id, similarity),
+    }
+}

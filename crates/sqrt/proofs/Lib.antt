@@ -1,0 +1,5 @@
+pub mod Laws
+pub mod Function
+pub mod Values
+pub mod Bits
+pub mod Floats

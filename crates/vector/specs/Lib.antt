@@ -1,0 +1,4 @@
+pub mod Fold
+pub mod Finite
+pub mod Norm
+pub mod Answer

@@ -1,0 +1,91 @@
+-- P1 to P12, the scope document's worked examples, as one list, and what it means that each of them holds. Floats stand by their
+-- bits. Every meaning cites the definition that the contract of the call cites; nothing is defined a second time here.
+use Prim.Native.Nat.{ℕ, suc}
+use mathlib.Core.Path.{_≡_}
+use mathlib.Core.List.{List, [], _∷_, map}
+use lib.IntN.{ℤ, pos, negsuc}
+use lib.ListN.{length}
+use lib.Ieee.{Float, binary32, ofBits}
+use Rattle.sqrt.specs.RootOf.{rootOf}
+use Rattle.quantization.specs.Bf16.{lowered}
+use Rattle.faces.specs.Slots.{faceOf, facesOf, picksOf}
+use Rattle.bitmaps.specs.Words.{inserted, empty}
+use Rattle.bitmaps.specs.Walk.{idsOf}
+use Rattle.counting_bitmap.specs.Layers.{layer, mergedAll}
+use Rattle.counting_bitmap.specs.TopLayer.{topOf}
+use Rattle.counting_bitmap.specs.declared.Top.{Top}
+use Rattle.counting_bitmap.specs.declared.Top.the-variants.{Layer, Nothing}
+use Rattle.result.specs.Ranked.{Entry, entry}
+use Rattle.result.specs.Leaves.{Leaves}
+
+pub data Example : Type 0 where
+  -- a pattern and its square root
+  root : ℕ → ℕ → Example
+  -- a pattern and its bf16
+  half : ℕ → ℕ → Example
+  -- a projection and its face
+  face : List ℕ → ℤ → Example
+  -- a projection, a spill, and the faces picked
+  spill : List ℕ → ℕ → List ℤ → Example
+  -- the ids of sets merged into as many empty layers, the ids of each layer then, and for each search_k the layer picked
+  layers : List (List ℕ) → List (List ℕ) → List (ℕ × Top) → Example
+  -- k, the ids and scores fed to an empty set, the ids and scores listed then, and checked
+  feeds : ℕ → List (ℕ × ℕ) → List (ℕ × ℕ) → ℕ → Example
+
+-- ---- the list
+
+abbrev pub examples : List Example
+examples =
+    -- P1, P2, P3
+    root 0x4080_0000 0x4000_0000
+    ∷ root 0x0000_0001 0x1A35_04F3
+    ∷ root 0x7F7F_FFFF 0x5F7F_FFFF
+    -- P4, P5, P6
+    ∷ half 0x3F80_8000 0x3F80
+    ∷ half 0x3F81_8000 0x3F82
+    ∷ half 0x7F7F_FFFF 0x7F80
+    -- P7: (1,-1); P8: (-3,-1); P9: (5,0,0) with spill 2
+    ∷ face (0x3F80_0000 ∷ 0xBF80_0000 ∷ []) (pos 1)
+    ∷ face (0xC040_0000 ∷ 0xBF80_0000 ∷ []) (negsuc 0)
+    ∷ spill (0x40A0_0000 ∷ 0 ∷ 0 ∷ []) 2 (pos 1 ∷ negsuc 0 ∷ negsuc 0 ∷ [])
+    -- P10: {1,2}, {2,3}, {2}; search_k 1 picks the third, 2 the first, 4 none
+    ∷ layers ((1 ∷ 2 ∷ []) ∷ (2 ∷ 3 ∷ []) ∷ (2 ∷ []) ∷ []) ((1 ∷ 2 ∷ 3 ∷ []) ∷ (2 ∷ []) ∷ (2 ∷ []) ∷ []) ((1, Layer 2) ∷ (2, Layer 0) ∷ (4, Nothing) ∷ [])
+    -- P11: k 2, 7:1.0, 3:2.0, 5:2.0, 9:2.0
+    ∷ feeds 2 ((7, 0x3F80_0000) ∷ (3, 0x4000_0000) ∷ (5, 0x4000_0000) ∷ (9, 0x4000_0000) ∷ []) ((3, 0x4000_0000) ∷ (5, 0x4000_0000) ∷ []) 4
+    -- P12: k 3, 7:1.5, 5:1.0, 5:2.0
+    ∷ feeds 3 ((7, 0x3FC0_0000) ∷ (5, 0x3F80_0000) ∷ (5, 0x4000_0000) ∷ []) ((5, 0x4000_0000) ∷ (7, 0x3FC0_0000) ∷ (5, 0x3F80_0000) ∷ []) 3
+    ∷ []
+
+-- ---- what it means that one holds
+
+abbrev pub floats : List ℕ → List Float
+floats bits = map (ofBits binary32) bits
+
+-- a set of one word
+abbrev pub setOf : List ℕ → List ℕ
+setOf [] = empty 1
+setOf (i ∷ is) = inserted (setOf is) i
+
+-- layer j and those after it hold the ids listed
+abbrev pub LayersAre : List ℕ → ℕ → List (List ℕ) → Type 0
+LayersAre ls j [] = Unit
+LayersAre ls j (is ∷ rest) = (idsOf (layer 1 ls j) ≡ is) × LayersAre ls (suc j) rest
+
+abbrev pub Picks : ℕ → List ℕ → List (ℕ × Top) → Type 0
+Picks n ls [] = Unit
+Picks n ls (p ∷ ps) = (topOf n 1 ls (p .0) ≡ p .1) × Picks n ls ps
+
+abbrev pub entryOf : ℕ × ℕ → Entry
+entryOf (id, bits) = entry id (ofBits binary32 bits)
+
+abbrev pub Holds : Example → Type 0
+Holds (root b q) = rootOf b ≡ q
+Holds (half b h) = lowered b ≡ h
+Holds (face bits f) = faceOf (floats bits) ≡ f
+Holds (spill bits s fs) = facesOf (picksOf (length bits) s) (floats bits) ≡ fs
+Holds (layers sets ls ps) = LayersAre (mergedAll (length sets) 1 (empty (length sets)) (map setOf sets)) 0 ls × Picks (length sets) (mergedAll (length sets) 1 (empty (length sets)) (map setOf sets)) ps
+Holds (feeds k given list c) = Leaves k (map entryOf given) (map entryOf list) c
+
+abbrev pub All : List Example → Type 0
+All [] = Unit
+All (e ∷ es) = Holds e × All es

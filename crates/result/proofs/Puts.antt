@@ -11,10 +11,20 @@ use lib.Seq.{take-take, take-all, length-take-le, take-append-le}
 use Rattle.result.specs.Lists.{insertAt}
 use Rattle.result.specs.Ranked.{Entry}
 use Rattle.result.specs.Places.{entries}
-use Rattle.result.specs.Puts.{putIn, shiftedTo}
+use Rattle.result.specs.Puts.{putIn}
 use Rattle.result.specs.Sets.{entriesOf, over, holding}
 use Rattle.result.specs.declared.ResultSet.{ResultSet}
 use Rattle.result.proofs.Walk.{length-entries}
+
+-- the set with the entry put in at i of its two arrays, up to n, and n for its length
+abbrev pub shiftedTo : ResultSet → ℕ → ℕ → Entry → ResultSet
+shiftedTo s i n e = record {
+  ids = take n (insertAt i (e .key) (s .ids)) ++ drop n (s .ids);
+  sims = take n (insertAt i (e .sim) (s .sims)) ++ drop n (s .sims);
+  len = n;
+  k = s .k;
+  checked = s .checked;
+}
 
 -- ---- an insertion, and what is cut from it
 

@@ -5,17 +5,9 @@ use mathlib.Core.List.{List, [], _∷_, _++_, append-assoc}
 use mathlib.Core.Logic.{_≢_, _⊎_, inl, inr}
 use native.Mathlib.Omega.{arith}
 use native.Mathlib.Decide.{decLt}
-use native.Mathlib.Nat.{add-zero, add-suc, suc-add}
 use lib.ListN.{length, set, take, drop}
 use lib.Seq.{sets, sets-eq, set-comm, set-set, take-set-le, drop-set-lt, drop-set-add, take-at, drop-at, length-take-le}
 use Rattle.index_memory.proofs.Places.{place}
-
--- one run of stores after another
-pub sets-append : (xs ys l : List ℕ) (i : ℕ) → sets l i (xs ++ ys) ≡ sets (sets l i xs) (i + length xs) ys
-sets-append [] ys l i = ap (λ (k : ℕ). sets l k ys) (sym (add-zero i))
-sets-append (x ∷ xs) ys l i =
-    sets-append xs ys (set l i x) (suc i)
-    ∙ ap (λ (k : ℕ). sets (sets (set l i x) (suc i) xs) k ys) (suc-add i (length xs) ∙ sym (add-suc i (length xs)))
 
 -- stores in different places may change their order
 pub set-sets : (xs l : List ℕ) (i p b : ℕ) → (p < i) ⊎ (i + length xs ≤ p) → set (sets l i xs) p b ≡ sets (set l p b) i xs

@@ -1,0 +1,5 @@
+pub mod Words
+pub mod Orders
+pub mod Grows
+pub mod Deals
+pub mod Reached

@@ -5,12 +5,12 @@ use mathlib.Core.Bool.{Bool, true, false}
 use mathlib.Core.Path.{_≡_, refl, ap, sym, _∙_}
 use mathlib.Core.List.{List}
 use lib.Dec.{eqb, ltb}
-use borrow.Author.Tests.{eqb-true, ltb-true, eq-eqb, ne-eqb, lt-ltb, le-ltb}
+use borrow.Author.Tests.{eqb-true, ltb-true}
 use Rattle.paper.specs.Choice.{refuse}
-use Rattle.paper.specs.Geometry.{capOk, setWords, CapFacts}
+use Rattle.paper.specs.Geometry.{capOk, setWords}
 use Rattle.paper.proofs.Choice.{refuse-ok, refuse-rest}
 use Rattle.paper.proofs.Geometry.{cap-facts}
-use Rattle.bitmaps.specs.Answers.{setFault, pairFault, idFault, unlessRefused, Changed, askedOf, AskedIs, countedOf, CountedIs, steppedTo, walkedOf, walkedRefusal, walkedValue, WalkedIs}
+use Rattle.bitmaps.specs.Answers.{setFault, pairFault, idFault, unlessRefused, Changed, AskedIs, CountedIs, steppedTo, walkedRefusal, walkedValue, WalkedIs}
 use Rattle.bitmaps.specs.declared.Found.{Found}
 use Rattle.bitmaps.specs.declared.Found.the-variants as Found
 use Rattle.bitmaps.specs.declared.Asked.{Asked}

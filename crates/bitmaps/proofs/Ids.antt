@@ -1,16 +1,16 @@
 -- The list of a set's ids, rising: what the walk gives of it, and its length. Assumes nothing.
-use Prim.Native.Nat.{ℕ, zero, suc, _+_, _-_, _*_, _/_, _%_, _<_, _≤_}
+use Prim.Native.Nat.{ℕ, zero, suc, _+_, _-_, _*_, _<_, _≤_}
 use native.Mathlib.Numerals.{add-one}
 use native.Mathlib.Omega.{arith}
 use mathlib.Core.Path.{_≡_, refl, ap, ap₂, sym, _∙_}
 use mathlib.Core.Logic.{⊎-elim}
 use mathlib.Core.List.{List, [], _∷_}
 use lib.Dec.{eqb}
-use lib.ListN.{length, getD}
+use lib.ListN.{length}
 use borrow.Author.Tests.{eq-eqb, ne-eqb}
 use mathlib.Core.Bool.{Bool, true, false}
 use Rattle.paper.specs.Choice.{pick}
-use Rattle.bitmaps.specs.Words.{digit, has, size, sumTo}
+use Rattle.bitmaps.specs.Words.{has, size, sumTo}
 use Rattle.bitmaps.specs.Walk.{NextIs, keep, idsIn, idsFrom, idsOf, firstOf, listed, RisesFrom}
 use Rattle.bitmaps.specs.declared.Found.{Found}
 use Rattle.bitmaps.specs.declared.Found.the-variants.{At, Nothing}

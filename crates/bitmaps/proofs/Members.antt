@@ -1,8 +1,8 @@
 -- What a set holds after each operation, for a reader; and that sets of words are known by what they hold. Assumes nothing.
-use Prim.Native.Nat.{ℕ, zero, suc, _+_, _-_, _*_, _/_, _%_, _^_, _<_, _≤_, min, max}
+use Prim.Native.Nat.{ℕ, zero, suc, _+_, _-_, _*_, _/_, _<_, _≤_, min, max}
 use native.Mathlib.Nat.{zero-div}
 use native.Mathlib.Omega.{arith}
-use mathlib.Core.Bool.{Bool, true, false, not, _&&_, _||_, xor}
+use mathlib.Core.Bool.{false, not, _&&_, _||_, xor}
 use mathlib.Core.Path.{_≡_, refl, ap, sym, _∙_}
 use mathlib.Core.Logic.{⊎-elim}
 use mathlib.Core.List.{List}
@@ -10,7 +10,7 @@ use lib.Dec.{eqb}
 use lib.ListN.{length, getD}
 use lib.Seq.{ext-getD}
 use borrow.Author.Tests.{eq-eqb, ne-eqb}
-use Rattle.bitmaps.specs.Words.{digit, has, holds, union, exclusive, without, shared, inserted, empty}
+use Rattle.bitmaps.specs.Words.{has, holds, union, exclusive, without, shared, inserted, empty}
 use Rattle.bitmaps.proofs.Digits.{Words, digit-lt, digit-ext, has-union, has-shared, has-exclusive, has-without}
 use Rattle.bitmaps.proofs.Rising.{le-or-lt, has-at, has-inserted, has-kept}
 

@@ -1,10 +1,9 @@
 -- What the public calls on sets answer and leave.
 use Prim.Native.Nat.{ℕ, zero, suc}
-use mathlib.Core.Bool.{Bool, true, false}
+use mathlib.Core.Bool.{Bool, false}
 use mathlib.Core.Path.{_≡_}
-use mathlib.Core.List.{List, []}
+use mathlib.Core.List.{List}
 use lib.Dec.{eqb, ltb}
-use lib.ListN.{length}
 use Rattle.paper.specs.Choice.{refuse}
 use Rattle.paper.specs.Geometry.{capOk, setWords}
 use Rattle.bitmaps.specs.declared.Found.{Found}

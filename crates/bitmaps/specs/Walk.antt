@@ -1,6 +1,5 @@
 -- The rising walk over the ids of a set.
 use Prim.Native.Nat.{ℕ, zero, suc, _≤_, _<_, _*_, _-_, _+_}
-use mathlib.Core.Bool.{Bool}
 use mathlib.Core.Path.{_≡_}
 use mathlib.Core.List.{List, [], _∷_}
 use lib.Dec.{eqb}
@@ -10,11 +9,12 @@ use Rattle.bitmaps.specs.Words.{has}
 use Rattle.bitmaps.specs.declared.Found.{Found}
 use Rattle.bitmaps.specs.declared.Found.the-variants.{At, Nothing}
 
--- the ids of s among the m numbers from `from` on, rising
+-- i in front of a list, where its digit is not 0
 abbrev pub keep : ℕ → ℕ → List ℕ → List ℕ
 keep zero i l = l
 keep (suc d) i l = i ∷ l
 
+-- the ids of s among the m numbers from `from` on, rising
 unfoldable pub idsIn : ℕ → ℕ → List ℕ → List ℕ
 idsIn zero from s = []
 idsIn (suc m) from s = keep (has s from) from (idsIn m (suc from) s)

@@ -8,4 +8,3 @@ pub mod TopK
 pub mod Stop
 pub mod Places
 pub mod Checks
-pub mod Examples

@@ -1,6 +1,6 @@
 -- `add` meets its contract: refused, or done by `inner::add`. Assumes nothing.
 use borrow.Author.Needs.{needs}
-use mathlib.Core.Path.{_≡_, sym, _∙_}
+use mathlib.Core.Path.{sym, _∙_}
 use Rattle.bitmaps.proofs.Checks.{changed-refused, changed-done, id-accepted}
 use Rattle.bitmaps.proofs.add.Statement.{statement}
 use Rattle.bitmaps.proofs.add.Tie as tie

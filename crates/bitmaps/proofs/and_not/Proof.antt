@@ -1,6 +1,6 @@
 -- `and_not` meets its contract: refused, or done by `inner::and_not`. Assumes nothing.
 use borrow.Author.Needs.{needs}
-use mathlib.Core.Path.{_≡_, sym, _∙_}
+use mathlib.Core.Path.{sym, _∙_}
 use Rattle.bitmaps.proofs.Checks.{changed-refused, changed-done, pair-accepted}
 use Rattle.bitmaps.proofs.and_not.Statement.{statement}
 use Rattle.bitmaps.proofs.and_not.Tie as tie

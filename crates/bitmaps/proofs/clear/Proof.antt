@@ -1,6 +1,6 @@
 -- `clear` meets its contract: refused, or done by `inner::clear`. Assumes nothing.
 use borrow.Author.Needs.{needs}
-use mathlib.Core.Path.{_≡_, sym, _∙_}
+use mathlib.Core.Path.{sym, _∙_}
 use Rattle.bitmaps.proofs.Checks.{changed-refused, changed-done}
 use Rattle.bitmaps.proofs.clear.Statement.{statement}
 use Rattle.bitmaps.proofs.clear.Tie as tie

@@ -1,6 +1,6 @@
 -- `contains` meets its contract: refused, or answered by `inner::contains`. Assumes nothing.
 use borrow.Author.Needs.{needs}
-use mathlib.Core.Path.{_≡_, sym, _∙_}
+use mathlib.Core.Path.{sym, _∙_}
 use Rattle.bitmaps.proofs.Checks.{asked-refused, asked-done, id-accepted}
 use Rattle.bitmaps.proofs.contains.Statement.{statement}
 use Rattle.bitmaps.proofs.contains.Tie as tie

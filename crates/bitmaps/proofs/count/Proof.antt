@@ -1,6 +1,6 @@
 -- `count` meets its contract: refused, or answered by `inner::count`. Assumes nothing.
 use borrow.Author.Needs.{needs}
-use mathlib.Core.Path.{_≡_, sym, _∙_}
+use mathlib.Core.Path.{sym, _∙_}
 use Rattle.bitmaps.proofs.Checks.{counted-refused, counted-done, set-accepted}
 use Rattle.bitmaps.proofs.count.Statement.{statement}
 use Rattle.bitmaps.proofs.count.Tie as tie

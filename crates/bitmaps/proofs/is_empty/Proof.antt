@@ -1,6 +1,6 @@
 -- `is_empty` meets its contract: refused, or answered by `inner::is_empty`. Assumes nothing.
 use borrow.Author.Needs.{needs}
-use mathlib.Core.Path.{_≡_, sym, _∙_}
+use mathlib.Core.Path.{sym, _∙_}
 use Rattle.bitmaps.proofs.Checks.{asked-refused, asked-done}
 use Rattle.bitmaps.proofs.is_empty.Statement.{statement}
 use Rattle.bitmaps.proofs.is_empty.Tie as tie

@@ -1,6 +1,6 @@
 -- `next` meets its contract: refused, or answered by `inner::next`. Assumes nothing.
 use borrow.Author.Needs.{needs}
-use mathlib.Core.Path.{_≡_, sym, _∙_}
+use mathlib.Core.Path.{sym, _∙_}
 use Rattle.bitmaps.specs.declared.Found.the-variants.{At, Nothing}
 use Rattle.bitmaps.proofs.Ids.{next-first}
 use Rattle.bitmaps.proofs.Checks.{walked-refused, walked-done, set-accepted}

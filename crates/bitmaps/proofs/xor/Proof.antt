@@ -1,6 +1,6 @@
 -- `xor` meets its contract: refused, or done by `inner::xor`. Assumes nothing.
 use borrow.Author.Needs.{needs}
-use mathlib.Core.Path.{_≡_, sym, _∙_}
+use mathlib.Core.Path.{sym, _∙_}
 use Rattle.bitmaps.proofs.Checks.{changed-refused, changed-done, pair-accepted}
 use Rattle.bitmaps.proofs.xor.Statement.{statement}
 use Rattle.bitmaps.proofs.xor.Tie as tie

@@ -4,8 +4,8 @@ use mathlib.Core.Path.{_≡_, refl, _∙_}
 use native.Mathlib.Omega.{arith}
 use borrow.Author.Needs.{needs}
 use lib.ListN.{length, length-set}
-use Rattle.bitmaps.specs.Words.{wordBut, byWord}
-use Rattle.bitmaps.proofs.Zip.{byWordTo, byWordTo-at, byWordTo-more, byWordTo-length, byWordTo-all}
+use Rattle.bitmaps.specs.Words.{wordBut}
+use Rattle.bitmaps.proofs.Zip.{byWordTo, byWordTo-more, byWordTo-all}
 use Rattle.bitmaps.proofs.inner.and_not.Statement.{statement}
 use Rattle.bitmaps.proofs.inner.and_not.Tie as tie
 

@@ -1,9 +1,9 @@
 -- `inner::clear` meets its contract: the first i words are 0. Assumes nothing.
 use borrow.Author.Needs.{needs}
 use borrow.Author.Fill.{fill-none, fill-more}
-use Prim.Native.Nat.{ℕ, _≤_, _-_}
-use mathlib.Core.Path.{_≡_, refl, ap, _∙_}
-use mathlib.Core.List.{List, _++_, append-nil}
+use Prim.Native.Nat.{_≤_, _-_}
+use mathlib.Core.Path.{_≡_, refl, _∙_}
+use mathlib.Core.List.{_++_, append-nil}
 use native.Mathlib.Omega.{arith}
 use lib.ListN.{length, drop, replicate, length-set}
 use lib.Seq.{drop-length}

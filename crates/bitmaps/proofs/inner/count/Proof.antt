@@ -1,11 +1,11 @@
 -- `inner::count` meets its contract: what is counted, and the size of what is left, make the size. Assumes nothing.
 use Prim.Native.Nat.{_+_, _*_, _≤_, _-_}
-use mathlib.Core.Path.{_≡_, refl, _∙_}
+use mathlib.Core.Path.{_≡_}
 use native.Mathlib.Omega.{arith}
 use borrow.Author.Needs.{needs}
-use lib.ListN.{length, drop, getD}
+use lib.ListN.{length, drop}
 use lib.Seq.{drop-length}
-use lib.Count.{ones, ones-le}
+use lib.Count.{ones-le}
 use Rattle.bitmaps.specs.Words.{size}
 use Rattle.bitmaps.proofs.Size.{size-drop}
 use Rattle.bitmaps.proofs.inner.count.Statement.{statement}

@@ -1,11 +1,9 @@
 -- `inner::next` meets its contract: no id stands between `from` and word q. Assumes nothing.
-use Prim.Native.Nat.{ℕ, _≤_, _<_, _-_, _+_, _*_, _/_, _%_, _^_}
-use mathlib.Core.Path.{_≡_, refl, sym, ap, _∙_}
+use Prim.Native.Nat.{ℕ, _≤_, _<_, _-_, _*_, _/_, _%_, _^_}
+use mathlib.Core.Path.{_≡_, refl}
 use native.Mathlib.Omega.{arith}
-use native.Mathlib.Nat.{mod-lt, div-one}
 use borrow.Author.Needs.{needs}
 use lib.ListN.{length, getD}
-use lib.Count.{trailingZeros, trailing-le}
 use mathlib.Core.Logic.{⊎-elim}
 use Rattle.bitmaps.specs.Words.{has}
 use Rattle.bitmaps.proofs.Digits.{Words}

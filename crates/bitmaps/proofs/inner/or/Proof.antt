@@ -5,8 +5,7 @@ use native.Mathlib.Omega.{arith}
 use borrow.Author.Needs.{needs}
 use lib.ListN.{length, length-set}
 use lib.Bits.{bitOr}
-use Rattle.bitmaps.specs.Words.{byWord}
-use Rattle.bitmaps.proofs.Zip.{byWordTo, byWordTo-at, byWordTo-more, byWordTo-length, byWordTo-all}
+use Rattle.bitmaps.proofs.Zip.{byWordTo, byWordTo-more, byWordTo-all}
 use Rattle.bitmaps.proofs.inner.or.Statement.{statement}
 use Rattle.bitmaps.proofs.inner.or.Tie as tie
 

@@ -1,0 +1,2 @@
+-- What the program's parts promise.
+pub mod Steps

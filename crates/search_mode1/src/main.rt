@@ -1,0 +1,4 @@
+// The search program on a run with store mode 1 (EXPECTED.md).
+fn main() {
+    console::run();
+}

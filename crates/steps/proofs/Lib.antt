@@ -1,0 +1,3 @@
+pub mod Room
+pub mod Cases
+pub mod Refused

@@ -72,14 +72,15 @@ refusal-split g bs id v ix work =
     go true false c r = refl
     go false b c r = refl
 
+late-cases : (a b : Bool) (w : List Float) → workAfter (refuse 6 a (refuse 7 b 0)) w ≡ floatZeros (length w)
+unfolding workAfter
+late-cases true true w = refl
+late-cases true false w = refl
+late-cases false b w = refl
+
 late-work : (d n : ℕ) (bs v w : List Float) → workAfter (lateRefusal d n bs v) w ≡ floatZeros (length w)
-unfolding workAfter lateRefusal
-late-work d n bs v w = go (eqb (normNumber v) 0) (projectionsFinite d bs v n)
-  where
-    go : (a b : Bool) → pick (leb 1 (refuse 6 a (refuse 7 b 0)) and leb (refuse 6 a (refuse 7 b 0)) 5) w (floatZeros (length w)) ≡ floatZeros (length w)
-    go true true = refl
-    go true false = refl
-    go false b = refl
+unfolding lateRefusal
+late-work d n bs v w = late-cases (eqb (normNumber v) 0) (projectionsFinite d bs v n) w
 
 module _ (g : Geo) (bs : List Float) (id : ℕ) (v : List Float) (ix : Ix) (work : List Float) where
   abbrev shape : ℕ

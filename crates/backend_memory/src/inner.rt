@@ -98,8 +98,13 @@ pub fn rank(
                 if similarity != similarity {
                     return refuse(paper::NAN_SCORE);
                 }
-                set = result::inner::ranked(set, id as u32, similarity);
                 at = id + 1;
+                // Most candidates meet a full list with a greater last score: they are only counted, and the set stays where it is.
+                if result::inner::closed_to(&set.sims, set.len, set.k, similarity) {
+                    set.checked += 1;
+                } else {
+                    set = result::inner::ranked(set, id as u32, similarity);
+                }
             }
             Found::Nothing => {
                 return Fed { refusal: 0, set };

@@ -1,7 +1,6 @@
 -- `adding::add_to_bitmaps` meets its contract: after b turns the id is in the face sets of the first b bases. Assumes nothing.
 use Prim.Native.Nat.{ℕ, _+_, _*_, _-_, _≤_, _<_}
 use mathlib.Core.Path.{_≡_, _∙_, sym, ap, refl, subst}
-use mathlib.Core.List.{List}
 use native.Mathlib.Omega.{arith}
 use native.Mathlib.Nat.{mul-le-mul, le-refl}
 use borrow.Author.Needs.{needs}

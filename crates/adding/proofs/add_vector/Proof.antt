@@ -1,8 +1,7 @@
 -- `adding::add_vector` meets its contract. Assumes nothing.
 use Prim.Native.Nat.{ℕ}
-use mathlib.Core.Path.{_≡_, _∙_, sym, ap}
+use mathlib.Core.Path.{_∙_, sym, ap}
 use borrow.Author.Tests.{not-true, not-false}
-use lib.ListN.{length}
 use Rattle.paper.specs.Geometry.{geo}
 use Rattle.index_memory.specs.Memory.{floatZeros}
 use Rattle.adding.proofs.Shape.{shaped}

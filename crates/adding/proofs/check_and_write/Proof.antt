@@ -1,7 +1,6 @@
 -- `adding::check_and_write` meets its contract. Assumes nothing.
 use Prim.Native.Nat.{ℕ, _*_, _<_}
-use mathlib.Core.Path.{_≡_, _∙_, sym, ap, refl, subst}
-use lib.ListN.{getD}
+use mathlib.Core.Path.{_∙_, sym, refl, subst}
 use Rattle.paper.specs.Geometry.{geo}
 use Rattle.adding.proofs.Cases.{late-six, late-seven, late-none, was-finite, was-not, written-is}
 use Rattle.adding.proofs.Laws.{face-slot-low}

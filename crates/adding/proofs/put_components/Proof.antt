@@ -1,6 +1,6 @@
 -- `adding::put_components` meets its contract: after i turns the first i components are stored. Assumes nothing.
-use Prim.Native.Nat.{ℕ, _+_, _*_, _-_, _≤_, _<_}
-use mathlib.Core.Path.{_≡_, _∙_, sym, ap, refl}
+use Prim.Native.Nat.{_+_, _*_, _-_, _≤_}
+use mathlib.Core.Path.{_≡_, _∙_, ap, refl}
 use mathlib.Core.List.{List}
 use native.Mathlib.Omega.{arith}
 use native.Mathlib.Nat.{mul-le-mul, mul-le-mul-left, le-of-lt}
@@ -8,7 +8,6 @@ use borrow.Author.Needs.{needs}
 use denote.Ref.{now}
 use lib.ListN.{length, take}
 use lib.Seq.{sets, take-all}
-use Rattle.paper.specs.Geometry.{compSize}
 use Rattle.paper.proofs.Geometry.{comp-le}
 use Rattle.quantization.specs.Stored.{lowerBytes}
 use Rattle.adding.proofs.Turns.{lowered-more, lowered-none, room}

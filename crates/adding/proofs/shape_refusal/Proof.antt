@@ -3,7 +3,6 @@ use mathlib.Core.Path.{sym, _∙_}
 use borrow.Author.Needs.{needs}
 use borrow.Author.Tests.{not-true, not-false, lt-ltb, le-ltb}
 use Rattle.paper.specs.Geometry.{geo}
-use Rattle.adding.specs.Adding.{shapeRefusal}
 use Rattle.adding.proofs.Shape.{own-refused, own-bounds, lent-refused, id-decides}
 use Rattle.adding.proofs.shape_refusal.Statement.{statement}
 use Rattle.adding.proofs.shape_refusal.Tie as tie

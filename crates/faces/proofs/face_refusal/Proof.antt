@@ -2,7 +2,6 @@
 use mathlib.Core.Path.{sym, _∙_}
 use borrow.Author.Tests.{le-leb, lt-leb, not-true, not-false}
 use Rattle.faces.specs.Answer.{faceNumber}
-use lib.ListN.{length}
 use borrow.Author.Needs.{needs}
 use Rattle.faces.proofs.face_refusal.Statement.{statement}
 use Rattle.faces.proofs.face_refusal.Tie as tie

@@ -1,11 +1,10 @@
 -- `merging::copy_present` meets its contract: the marked slots before `at` are copied. Assumes nothing.
-use Prim.Native.Nat.{ℕ, _+_, _*_, _-_, _≤_, _<_}
-use mathlib.Core.Path.{_≡_, _∙_, sym, ap, refl, subst}
+use Prim.Native.Nat.{ℕ, _+_, _*_, _-_, _≤_}
+use mathlib.Core.Path.{_≡_, _∙_, sym, refl, subst}
 use native.Mathlib.Omega.{arith}
 use native.Mathlib.Nat.{mul-le-mul}
 use borrow.Author.Needs.{needs}
-use lib.ListN.{length, take, drop}
-use lib.Seq.{sets}
+use lib.ListN.{length}
 use Rattle.index_memory.proofs.Places.{place}
 use Rattle.bitmaps.specs.Walk.{NextIs}
 use Rattle.bitmaps.specs.declared.Found.the-variants.{At, Nothing}

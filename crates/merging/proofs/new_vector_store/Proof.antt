@@ -1,7 +1,7 @@
 -- `merging::new_vector_store` meets its contract. Assumes nothing.
-use mathlib.Core.Path.{_≡_, _∙_, sym, refl}
+use mathlib.Core.Path.{_∙_, sym}
 use Rattle.paper.specs.Geometry.{geo}
-use Rattle.index_memory.specs.Memory.{ixOf, zeros}
+use Rattle.index_memory.specs.Memory.{ixOf}
 use Rattle.index_memory.proofs.Lengths.{own-none, empty-is}
 use Rattle.merging.proofs.Cases.{empty-refused, empty-done}
 use borrow.Author.Needs.{needs}

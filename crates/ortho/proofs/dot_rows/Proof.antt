@@ -1,6 +1,6 @@
 -- `ortho::dot_rows` meets its contract. Assumes nothing.
 use borrow.Author.Needs.{needs}
-use mathlib.Core.Path.{_≡_, refl, sym, _∙_, ap}
+use mathlib.Core.Path.{_∙_}
 use native.Mathlib.Nat.{add-sub-cancel-left}
 use Rattle.ortho.proofs.dot_rows.Statement.{statement}
 use Rattle.ortho.proofs.dot_rows.Tie as tie

@@ -1,7 +1,7 @@
 -- `ortho::orthonormalize` meets its contract. Assumes nothing.
 use borrow.Author.Needs.{needs}
-use Prim.Native.Nat.{ℕ, _+_, _-_, _*_, _<_, _≤_}
-use mathlib.Core.Path.{_≡_, refl, sym, _∙_, ap}
+use Prim.Native.Nat.{ℕ, _*_, _<_, _≤_}
+use mathlib.Core.Path.{_≡_, sym, _∙_, ap}
 use mathlib.Core.Bool.{Bool, true, false}
 use mathlib.Core.List.{List}
 use mathlib.Core.Option.{none, some}
@@ -12,7 +12,7 @@ use lib.ListN.{length, replicate}
 use lib.Ieee.{Float}
 use Rattle.vector.specs.Fold.{zero32}
 use Rattle.vector.specs.Finite.{allFinite}
-use Rattle.ortho.specs.Ortho.{Written, written, orthonormalized, roundsOf, told}
+use Rattle.ortho.specs.Ortho.{written, orthonormalized, roundsOf, told}
 use Rattle.ortho.proofs.orthonormalize.Statement.{statement}
 use Rattle.ortho.proofs.orthonormalize.Tie as tie
 

@@ -1,15 +1,13 @@
 use mathlib.Core.Path.{_≡_, refl, sym, ap, _∙_}
-use mathlib.Core.Bool.{true, false}
 use Prim.Native.Nat.{ℕ, _+_, _-_, _*_, _/_, _<_, _≤_}
 use native.Mathlib.Omega.{arith}
 use borrow.Author.Needs.{needs}
 use borrow.Author.Tests.{not-true, not-false}
-use lib.ListN.{length, getD, drop}
+use lib.ListN.{length, drop}
 use lib.Seq.{sets}
-use lib.Ieee.{nan}
-use Rattle.paper.specs.Geometry.{modeOk, compSize}
+use Rattle.paper.specs.Geometry.{compSize}
 use Rattle.paper.proofs.Geometry.{comp-low}
-use Rattle.quantization.specs.Stored.{compBytes, lowerBytes}
+use Rattle.quantization.specs.Stored.{lowerBytes}
 use Rattle.quantization.proofs.Copies.{fit, unfit, room, marshal-start, marshal-step, marshal-end, marshal-unknown, marshal-short, marshal-done}
 use Rattle.quantization.proofs.marshal.Statement.{statement}
 use Rattle.quantization.proofs.marshal.Tie as tie

@@ -1,12 +1,11 @@
 use mathlib.Core.Path.{_≡_, refl, sym, ap, _∙_}
-use mathlib.Core.Bool.{true, false}
 use Prim.Native.Nat.{ℕ, _+_, _-_, _*_, _/_, _%_, _<_, _≤_}
 use native.Mathlib.Omega.{arith}
 use borrow.Author.Needs.{needs}
 use borrow.Author.Tests.{not-true, not-false}
-use lib.ListN.{length, getD, drop, length-set}
+use lib.ListN.{length, length-set}
 use lib.Seq.{sets}
-use Rattle.paper.specs.Geometry.{modeOk, compSize}
+use Rattle.paper.specs.Geometry.{compSize}
 use Rattle.paper.proofs.Geometry.{comp-low}
 use Rattle.quantization.specs.Stored.{componentAt, components}
 use Rattle.quantization.proofs.Copies.{room, unmarshal-start, unmarshal-step, unmarshal-end, unmarshal-unknown, unmarshal-uneven, unmarshal-short, unmarshal-done}

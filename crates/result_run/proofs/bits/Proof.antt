@@ -3,7 +3,6 @@ use lib.Ieee.{binary32, toBits}
 use lib.Ieee.Compare.{differs-from-itself}
 use borrow.Author.Needs.{needs}
 use mathlib.Core.Path.{sym, subst}
-use Prim.Native.Nat.{_-_}
 use lib.Dec.{T}
 use Rattle.result.proofs.Tests.{other-held}
 use Rattle.result_run.proofs.bits.Statement.{statement}

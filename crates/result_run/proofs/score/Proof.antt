@@ -1,6 +1,5 @@
 use borrow.Author.Needs.{needs}
 use mathlib.Core.Path.{sym, _∙_}
-use Prim.Native.Nat.{_-_}
 use Rattle.result_run.proofs.Patterns.{zero-by-zero, reads-nan, reads-number}
 use Rattle.result_run.proofs.score.Statement.{statement}
 use Rattle.result_run.proofs.score.Tie as tie

@@ -1,6 +1,5 @@
 use borrow.Author.Needs.{needs}
 use mathlib.Core.Path.{sym, subst}
-use Prim.Native.Nat.{_-_}
 use lib.Dec.{T}
 use Rattle.result.proofs.Tests.{other-held}
 use Rattle.result_run.proofs.show_recall.Statement.{statement}

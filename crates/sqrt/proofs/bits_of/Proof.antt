@@ -4,18 +4,13 @@ use Rattle.sqrt.proofs.Bits.{only-nan, no-nan, nan-bits}
 use borrow.Author.Needs.{needs}
 use Rattle.sqrt.proofs.bits_of.Statement.{statement}
 use Rattle.sqrt.proofs.bits_of.Tie as tie
-use Rattle.sqrt.proofs.bits_of.Reads as reads
-use Rattle.sqrt.proofs.bits_of.Lts as lts
 
--- src/lib.rt:13:9
 returns : tie.Need-returns
 returns c = sym (ap (toBits binary32) (only-nan (c .before .args .x) (c .if1 .taken)) ∙ nan-bits)
 
--- src/lib.rt:15:5
 float-to-bits-result : tie.Need-float-to-bits-result
 float-to-bits-result c = no-nan (c .before .args .x) (c .if1 .left)
 
--- src/lib.rt:9:1
 returns-2 : tie.Need-returns-2
 returns-2 c = search needs
 

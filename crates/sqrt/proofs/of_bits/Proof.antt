@@ -1,20 +1,15 @@
-use mathlib.Core.Path.{sym, ap, _∙_}
+use mathlib.Core.Path.{sym, _∙_}
 use Rattle.sqrt.proofs.Bits.{zero-by-zero, reads-nan, reads-number}
 use borrow.Author.Needs.{needs}
 use Rattle.sqrt.proofs.of_bits.Statement.{statement}
 use Rattle.sqrt.proofs.of_bits.Tie as tie
-use Rattle.sqrt.proofs.of_bits.Reads as reads
-use Rattle.sqrt.proofs.of_bits.Lts as lts
 
--- src/lib.rt:23:9
 returns : tie.Need-returns
 returns c = zero-by-zero ∙ sym (reads-nan (c .before .args .n) (c .if1 .taken))
 
--- src/lib.rt:25:5
 float-from-bits-result : tie.Need-float-from-bits-result
 float-from-bits-result c = reads-number (c .before .args .n) (c .if1 .left)
 
--- src/lib.rt:19:1
 returns-2 : tie.Need-returns-2
 returns-2 c = search needs
 

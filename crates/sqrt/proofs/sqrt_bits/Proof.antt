@@ -1,10 +1,10 @@
 -- Each arm of the match answers what `Sqrt` says of its class (`Laws`). Assumes nothing.
-use Prim.Native.Nat.{ℕ, _+_, _-_, _*_, _/_, _%_, _^_, _≤_, _<_}
+use Prim.Native.Nat.{ℕ, _+_, _-_, _*_, _/_, _%_, _^_, _<_}
 use mathlib.Core.Path.{_≡_, refl, sym, ap, _∙_}
 use borrow.Author.Needs.{needs}
 use native.Mathlib.Omega.{arith}
 use lib.Count.{leadingZeros}
-use Rattle.sqrt.specs.Root.{mag, Near, Sqrt}
+use Rattle.sqrt.specs.Root.{Sqrt}
 use Rattle.sqrt.proofs.Laws.{is-zero, is-infinity, is-invalid, is-root, normal, subnormal, Shifted, shift-up}
 use Rattle.sqrt.proofs.sqrt_bits.Statement.{statement}
 use Rattle.sqrt.proofs.sqrt_bits.Tie as tie

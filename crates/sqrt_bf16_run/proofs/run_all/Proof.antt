@@ -1,6 +1,5 @@
 use Prim.Native.Nat.{_-_, _≤_}
 use borrow.Author.Needs.{needs}
-use native.Mathlib.Omega.{arith}
 use lib.ListN.{length}
 use Rattle.sqrt_bf16_run.proofs.run_all.Statement.{statement}
 use Rattle.sqrt_bf16_run.proofs.run_all.Tie as tie

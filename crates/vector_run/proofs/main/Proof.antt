@@ -1,8 +1,6 @@
 -- `vector_run::main` meets its contract. Assumes nothing.
 use borrow.Author.Needs.{needs}
-use Prim.Native.Nat.{_-_, _≤_}
 use mathlib.Core.Path.{_≡_, refl, sym, _∙_}
-use native.Mathlib.Omega.{arith}
 use lib.ListN.{length}
 use Rattle.vector_run.proofs.main.Statement.{statement}
 use Rattle.vector_run.proofs.main.Tie as tie

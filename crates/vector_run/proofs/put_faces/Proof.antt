@@ -1,7 +1,6 @@
 -- `vector_run::put_faces` meets its contract. Assumes nothing.
 use borrow.Author.Needs.{needs}
 use Prim.Native.Nat.{_-_, _≤_}
-use native.Mathlib.Omega.{arith}
 use lib.ListN.{length}
 use Rattle.vector_run.proofs.put_faces.Statement.{statement}
 use Rattle.vector_run.proofs.put_faces.Tie as tie

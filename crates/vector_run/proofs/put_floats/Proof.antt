@@ -1,7 +1,6 @@
 -- `vector_run::put_floats` meets its contract. Assumes nothing.
 use borrow.Author.Needs.{needs}
 use Prim.Native.Nat.{_-_, _≤_}
-use native.Mathlib.Omega.{arith}
 use lib.ListN.{length}
 use Rattle.vector_run.proofs.put_floats.Statement.{statement}
 use Rattle.vector_run.proofs.put_floats.Tie as tie

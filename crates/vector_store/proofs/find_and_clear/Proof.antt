@@ -8,41 +8,28 @@ use Rattle.vector_store.specs.Search.{foundOf, works, searched}
 use borrow.Author.Needs.{needs}
 use Rattle.vector_store.proofs.find_and_clear.Statement.{statement}
 use Rattle.vector_store.proofs.find_and_clear.Tie as tie
-use Rattle.vector_store.proofs.find_and_clear.Reads as reads
-use Rattle.vector_store.proofs.find_and_clear.Lts as lts
-use Rattle.bitmaps.proofs.inner.clear.Reads as clear-reads
-use Rattle.index_memory.proofs.inner.clear_floats.Reads as clear-floats-reads
-use Rattle.vector_store.proofs.find_nearest_internal.Reads as find-nearest-internal-reads
 
--- src/lib.rt:119:9
 find-nearest-internal-requires : tie.Need-find-nearest-internal-requires
 find-nearest-internal-requires c κs = search needs
 
--- src/lib.rt:120:5
 clear-floats-requires : tie.Need-clear-floats-requires
 clear-floats-requires c κs = search needs
 
--- src/lib.rt:121:5
 clear-requires : tie.Need-clear-requires
 clear-requires c κs = search needs
 
--- src/lib.rt:122:5
 clear-requires-2 : tie.Need-clear-requires-2
 clear-requires-2 c κs = search needs
 
--- src/lib.rt:113:1
 same-length : tie.Need-same-length
 same-length c = search needs
 
--- src/lib.rt:113:1
 same-length-2 : tie.Need-same-length-2
 same-length-2 c = search needs
 
--- src/lib.rt:113:1
 same-length-3 : tie.Need-same-length-3
 same-length-3 c = search needs
 
--- src/lib.rt:113:1
 returns : tie.Need-returns
 returns c =
     let a = c .before .before .before .before .before .before .before .before .before .before .before .before .before .before .before .before .before .before .before .before .before .before .before .before .before .before .before .before .before .before .args in

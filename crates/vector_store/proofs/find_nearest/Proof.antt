@@ -1,5 +1,5 @@
 -- `vector_store::find_nearest` meets its contract. Assumes nothing.
-use mathlib.Core.Path.{_≡_, _∙_, sym}
+use mathlib.Core.Path.{_∙_, sym}
 use borrow.Author.Tests.{not-true, not-false}
 use lib.ListN.{length}
 use Rattle.paper.specs.Geometry.{geo}
@@ -9,76 +9,55 @@ use Rattle.vector_store.proofs.Cases.{find-args, search-shape, search-f
 use borrow.Author.Needs.{needs}
 use Rattle.vector_store.proofs.find_nearest.Statement.{statement}
 use Rattle.vector_store.proofs.find_nearest.Tie as tie
-use Rattle.vector_store.proofs.find_nearest.Reads as reads
-use Rattle.vector_store.proofs.find_nearest.Lts as lts
-use Rattle.faces.proofs.picks_for.Reads as picks-for-reads
-use Rattle.vector.proofs.all_finite.Reads as all-finite-reads
-use Rattle.vector_store.proofs.find_and_clear.Reads as find-and-clear-reads
-use Rattle.vector_store.proofs.refuse.Reads as refuse-reads
-use Rattle.vector_store.proofs.shape_refusal.Reads as shape-refusal-reads
 
--- src/lib.rt:135:9
 shape-refusal-requires : tie.Need-shape-refusal-requires
 shape-refusal-requires c κs = search needs
 
--- src/lib.rt:137:9
 refuse-requires : tie.Need-refuse-requires
 refuse-requires c κs = search needs
 
--- src/lib.rt:137:9
 returns : tie.Need-returns
 returns c =
     let a = c .before .before .before .before .before .before .before .before .before .before .before .args in
     search-shape (geo (a .d) (a .n) (a .cap) (a .mode)) (a .bases .now) (ixOf (a .faces .now) (a .marks .now) (a .vectors .now)) (a .target .now) (a .k) (a .search-k) (a .spill) (works (a .work .now) (a .layers .now) (a .set .now)) (c .before .before .shape-refusal .result) (c .refuse .result) (c .before .before .shape-refusal .ensures) (c .before .if1 .taken) (c .refuse .ensures)
 
--- src/lib.rt:140:9
 refuse-requires-2 : tie.Need-refuse-requires-2
 refuse-requires-2 c κs = search needs
 
--- src/lib.rt:140:9
 returns-2 : tie.Need-returns-2
 returns-2 c =
     let a = c .before .before .before .before .before .before .before .before .before .before .before .before .args in
     search-four (geo (a .d) (a .n) (a .cap) (a .mode)) (a .bases .now) (ixOf (a .faces .now) (a .marks .now) (a .vectors .now)) (a .target .now) (a .k) (a .search-k) (a .spill) (works (a .work .now) (a .layers .now) (a .set .now)) (c .refuse2 .result) (sym (c .before .before .before .shape-refusal .ensures) ∙ c .before .before .if1 .left) (c .before .if2 .taken) (c .refuse2 .ensures)
 
--- src/lib.rt:142:9
 all-finite-requires : tie.Need-all-finite-requires
 all-finite-requires c κs = search needs
 
--- src/lib.rt:143:9
 refuse-requires-3 : tie.Need-refuse-requires-3
 refuse-requires-3 c κs = search needs
 
--- src/lib.rt:143:9
 returns-3 : tie.Need-returns-3
 returns-3 c =
     let a = c .before .before .before .before .before .before .before .before .before .before .before .before .before .before .args in
     search-five (geo (a .d) (a .n) (a .cap) (a .mode)) (a .bases .now) (ixOf (a .faces .now) (a .marks .now) (a .vectors .now)) (a .target .now) (a .k) (a .search-k) (a .spill) (works (a .work .now) (a .layers .now) (a .set .now)) (c .refuse3 .result) (sym (c .before .before .before .before .before .shape-refusal .ensures) ∙ c .before .before .before .before .if1 .left) (c .before .before .before .if2 .left) (sym (c .before .before .all-finite .ensures) ∙ not-true _ (c .before .if3 .taken)) (c .refuse3 .ensures)
 
--- src/lib.rt:145:9
 picks-for-requires : tie.Need-picks-for-requires
 picks-for-requires c κs = search needs
 
--- src/lib.rt:146:5
 find-and-clear-requires : tie.Need-find-and-clear-requires
 find-and-clear-requires c κs =
     let a = c .before .before .before .before .before .before .before .before .before .before .before .before .before .before .before .before .before .args in
     find-args (geo (a .d) (a .n) (a .cap) (a .mode)) (a .k) (length (a .bases .now)) (length (a .faces .now)) (length (a .marks .now)) (length (a .vectors .now)) (length (a .target .now)) (length (a .work .now)) (length (a .layers .now)) (length (a .set .now))
     (sym (c .before .before .before .before .before .before .before .before .shape-refusal .ensures) ∙ c .before .before .before .before .before .before .before .if1 .left) (c .before .before .before .before .before .before .if2 .left)
 
--- src/lib.rt:130:1
 same-length : tie.Need-same-length
 same-length c = search needs
 
--- src/lib.rt:130:1
 same-length-2 : tie.Need-same-length-2
 same-length-2 c = search needs
 
--- src/lib.rt:130:1
 same-length-3 : tie.Need-same-length-3
 same-length-3 c = search needs
 
--- src/lib.rt:130:1
 returns-4 : tie.Need-returns-4
 returns-4 c =
     let a = c .before .before .before .before .before .before .before .before .before .before .before .before .before .before .before .before .before .before .before .before .before .before .before .before .args in

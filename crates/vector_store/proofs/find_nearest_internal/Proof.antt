@@ -5,55 +5,39 @@ use Rattle.vector_store.proofs.Cases.{found-refused, found-done}
 use borrow.Author.Needs.{needs}
 use Rattle.vector_store.proofs.find_nearest_internal.Statement.{statement}
 use Rattle.vector_store.proofs.find_nearest_internal.Tie as tie
-use Rattle.vector_store.proofs.find_nearest_internal.Reads as reads
-use Rattle.vector_store.proofs.find_nearest_internal.Lts as lts
-use Rattle.candidates.proofs.inner.gather.Reads as gather-reads
-use Rattle.vector_store.proofs.rank_top.Reads as rank-top-reads
-use Rattle.vector_store.proofs.refuse.Reads as refuse-reads
 
--- src/lib.rt:105:9
 gather-requires : tie.Need-gather-requires
 gather-requires c κs = search needs
 
--- src/lib.rt:107:9
 refuse-requires : tie.Need-refuse-requires
 refuse-requires c κs = search needs
 
--- src/lib.rt:107:9
 same-length : tie.Need-same-length
 same-length c = search needs
 
--- src/lib.rt:107:9
 same-length-2 : tie.Need-same-length-2
 same-length-2 c = search needs
 
--- src/lib.rt:107:9
 same-length-3 : tie.Need-same-length-3
 same-length-3 c = search needs
 
--- src/lib.rt:107:9
 returns : tie.Need-returns
 returns c =
     let a = c .before .before .before .before .before .before .before .before .before .before .before .before .before .before .before .before .before .before .before .before .before .args in
     found-refused (a .n) (a .mode) (a .k) (a .search-k) (lent (a .bases .now) (a .faces .now) (a .target .now) (length (a .set .now)) (a .picks)) (a .marks .now) (a .vectors .now) (c .before .before .before .before .before .before .before .before .before .gather .last .1 .1 .1 .1 .0) (c .before .before .before .before .before .before .before .before .before .gather .result) (c .refuse .result) (c .before .before .before .before .before .before .before .before .before .gather .ensures) (c .before .if1 .taken) (c .refuse .ensures)
 
--- src/lib.rt:109:5
 rank-top-requires : tie.Need-rank-top-requires
 rank-top-requires c κs = search needs
 
--- src/lib.rt:100:1
 same-length-4 : tie.Need-same-length-4
 same-length-4 c = search needs
 
--- src/lib.rt:100:1
 same-length-5 : tie.Need-same-length-5
 same-length-5 c = search needs
 
--- src/lib.rt:100:1
 same-length-6 : tie.Need-same-length-6
 same-length-6 c = search needs
 
--- src/lib.rt:100:1
 returns-2 : tie.Need-returns-2
 returns-2 c =
     let a = c .before .before .before .before .before .before .before .before .before .before .before .before .before .before .before .before .before .before .before .before .before .before .args in

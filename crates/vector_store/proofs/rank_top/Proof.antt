@@ -4,23 +4,15 @@ use Prim.Native.Nat.{_+_, _*_, _≤_}
 use mathlib.Core.Path.{_≡_, _∙_, sym}
 use lib.ListN.{length}
 use Rattle.counting_bitmap.specs.TopLayer.{topOf}
-use Rattle.counting_bitmap.specs.declared.Top.the-variants.{Layer, Nothing}
+use Rattle.counting_bitmap.specs.declared.Top.the-variants.{Layer}
 use Rattle.vector_store.proofs.Cases.{top-none, top-ranked, layer-end, layer-long}
 use borrow.Author.Needs.{needs}
 use Rattle.vector_store.proofs.rank_top.Statement.{statement}
 use Rattle.vector_store.proofs.rank_top.Tie as tie
-use Rattle.vector_store.proofs.rank_top.Reads as reads
-use Rattle.vector_store.proofs.rank_top.Lts as lts
-use Rattle.backend_memory.proofs.inner.rank.Reads as rank-reads
-use Rattle.counting_bitmap.proofs.inner.top_layer.Reads as top-layer-reads
-use Rattle.vector_store.proofs.refuse.Reads as refuse-reads
-use Rattle.vector_store.proofs.show.Reads as show-reads
 
--- src/lib.rt:89:11
 top-layer-requires : tie.Need-top-layer-requires
 top-layer-requires c κs = search needs
 
--- src/lib.rt:90:20
 enum-known-i : tie.Need-enum-known-i
 enum-known-i c = search needs
 
@@ -31,31 +23,24 @@ top-is c = sym (c .before .before .before .top-layer .ensures) ∙ c .before .i 
 top-end : (c : tie.After-known-told) → c .before .i .given .0 .0 * c .before .before .before .before .before .before .before .before .args .w + c .before .before .before .before .before .before .before .before .args .w ≤ length (c .before .before .before .before .before .before .before .before .args .layers .now)
 top-end c = layer-end (c .before .before .before .before .before .before .before .before .args .n) (c .before .before .before .before .before .before .before .before .args .w) (c .before .before .before .before .before .before .before .before .args .search-k) (c .before .i .given .0 .0) (c .before .before .before .before .before .before .before .before .args .layers .now) (top-is c) (c .before .before .before .before .before .before .before .before .pre .layers)
 
--- src/lib.rt:91:21
 mul-a : tie.Need-mul-a
 mul-a c = omega (arith, top-end c, c .before .before .before .before .before .before .before .before .good)
 
--- src/lib.rt:92:21
 add-e : tie.Need-add-e
 add-e c = omega (arith, top-end c, c .before .before .before .before .before .before .before .before .good)
 
--- src/lib.rt:93:55
 mul-rank : tie.Need-mul-rank
 mul-rank c = omega (arith, top-end c, c .before .before .before .before .before .before .before .before .good)
 
--- src/lib.rt:93:55
 sub-rank : tie.Need-sub-rank
 sub-rank c = search needs
 
--- src/lib.rt:93:55
 part-rank-start : tie.Need-part-rank-start
 part-rank-start c = search needs
 
--- src/lib.rt:93:55
 part-rank-end : tie.Need-part-rank-end
 part-rank-end c = omega (arith, top-end c)
 
--- src/lib.rt:93:27
 rank-requires : tie.Need-rank-requires
 rank-requires c κs =
     let a = c .before .before .before .before .before .before .before .before .before .args in
@@ -69,25 +54,20 @@ rank-requires c κs =
       vectors = rw long (c .before .before .before .before .before .before .before .before .before .pre .vectors);
     }
 
--- src/lib.rt:93:13
 show-requires : tie.Need-show-requires
 show-requires c κs = search needs
 
--- src/lib.rt:95:25
 enum-told : tie.Need-enum-told
 enum-told c = search needs
 
--- src/lib.rt:95:25
 refuse-requires : tie.Need-refuse-requires
 refuse-requires c κs = search needs
 
--- src/lib.rt:85:1
 returns : tie.Need-returns
 returns c =
     let a = c .before .before .before .before .before .before .before .before .before .before .before .args in
     top-ranked (a .n) (a .mode) (a .k) (a .search-k) (a .w) (a .layers .now) (a .marks .now) (a .vectors .now) (a .target .now) (a .dropped) (c .show .result) (c .before .before .before .before .i .given .0 .0) (c .before .rank .result) (top-is (c .before .before .before)) (c .before .rank .ensures) (c .show .ensures)
 
--- src/lib.rt:85:1
 returns-2 : tie.Need-returns-2
 returns-2 c =
     let a = c .before .before .before .before .before .before .before .before .args in

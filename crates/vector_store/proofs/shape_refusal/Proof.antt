@@ -1,55 +1,40 @@
 -- `vector_store::shape_refusal` meets its contract. Assumes nothing.
-use mathlib.Core.Path.{_≡_, _∙_, sym}
+use mathlib.Core.Path.{_∙_, sym}
 use borrow.Author.Tests.{not-true, not-false}
 use Rattle.paper.proofs.Geometry.{geo-facts}
 use Rattle.vector_store.specs.Search.{shapeRefusal}
 use borrow.Author.Needs.{needs}
 use Rattle.vector_store.proofs.shape_refusal.Statement.{statement}
 use Rattle.vector_store.proofs.shape_refusal.Tie as tie
-use Rattle.vector_store.proofs.shape_refusal.Reads as reads
-use Rattle.vector_store.proofs.shape_refusal.Lts as lts
-use Rattle.index_memory.proofs.inner.bases_length_ok.Reads as bases-length-ok-reads
-use Rattle.index_memory.proofs.inner.own_lengths_ok.Reads as own-lengths-ok-reads
-use Rattle.paper.proofs.geometry_ok.Reads as geometry-ok-reads
-use Rattle.vector_store.proofs.work_lengths_ok.Reads as work-lengths-ok-reads
 
--- src/lib.rt:69:9
 geometry-ok-requires : tie.Need-geometry-ok-requires
 geometry-ok-requires c κs = search needs
 
--- src/lib.rt:70:9
 returns : tie.Need-returns
 unfolding shapeRefusal
 returns c = simp (sym (c .before .geometry-ok .ensures) ∙ not-true _ (c .if1 .taken))
 
--- src/lib.rt:72:9
 own-lengths-ok-requires : tie.Need-own-lengths-ok-requires
 own-lengths-ok-requires c κs = let f = geo-facts _ _ _ _ (sym (c .before .geometry-ok .ensures) ∙ not-false _ (c .if1 .left)) in (f .d-high, f .n-high, f .cap-high)
 
--- src/lib.rt:73:9
 returns-2 : tie.Need-returns-2
 unfolding shapeRefusal
 returns-2 c = simp (sym (c .before .before .before .geometry-ok .ensures) ∙ not-false _ (c .before .before .if1 .left), sym (c .before .own-lengths-ok .ensures) ∙ not-true _ (c .if2 .taken))
 
--- src/lib.rt:75:9
 bases-length-ok-requires : tie.Need-bases-length-ok-requires
 bases-length-ok-requires c κs = let f = geo-facts _ _ _ _ (sym (c .before .before .before .geometry-ok .ensures) ∙ not-false _ (c .before .before .if1 .left)) in (f .d-high, f .n-high)
 
--- src/lib.rt:76:9
 returns-3 : tie.Need-returns-3
 unfolding shapeRefusal
 returns-3 c = simp (sym (c .before .before .before .before .before .geometry-ok .ensures) ∙ not-false _ (c .before .before .before .before .if1 .left), sym (c .before .before .before .own-lengths-ok .ensures) ∙ not-false _ (c .before .before .if2 .left), sym (c .before .bases-length-ok .ensures) ∙ not-true _ (c .if3 .taken))
 
--- src/lib.rt:78:9
 work-lengths-ok-requires : tie.Need-work-lengths-ok-requires
 work-lengths-ok-requires c κs = let f = geo-facts _ _ _ _ (sym (c .before .before .before .before .before .geometry-ok .ensures) ∙ not-false _ (c .before .before .before .before .if1 .left)) in (f .n-high, f .cap-high)
 
--- src/lib.rt:79:9
 returns-4 : tie.Need-returns-4
 unfolding shapeRefusal
 returns-4 c = simp (sym (c .before .before .before .before .before .before .before .geometry-ok .ensures) ∙ not-false _ (c .before .before .before .before .before .before .if1 .left), sym (c .before .before .before .before .before .own-lengths-ok .ensures) ∙ not-false _ (c .before .before .before .before .if2 .left), sym (c .before .before .before .bases-length-ok .ensures) ∙ not-false _ (c .before .before .if3 .left), sym (c .before .work-lengths-ok .ensures) ∙ not-true _ (c .if4 .taken))
 
--- src/lib.rt:66:1
 returns-5 : tie.Need-returns-5
 unfolding shapeRefusal
 returns-5 c = simp (sym (c .before .before .before .before .before .before .before .geometry-ok .ensures) ∙ not-false _ (c .before .before .before .before .before .before .if1 .left), sym (c .before .before .before .before .before .own-lengths-ok .ensures) ∙ not-false _ (c .before .before .before .before .if2 .left), sym (c .before .before .before .bases-length-ok .ensures) ∙ not-false _ (c .before .before .if3 .left), sym (c .before .work-lengths-ok .ensures) ∙ not-false _ (c .if4 .left))

@@ -3,19 +3,13 @@ use Rattle.vector_store.proofs.Cases.{show-refused, show-good}
 use borrow.Author.Needs.{needs}
 use Rattle.vector_store.proofs.show.Statement.{statement}
 use Rattle.vector_store.proofs.show.Tie as tie
-use Rattle.vector_store.proofs.show.Reads as reads
-use Rattle.vector_store.proofs.show.Lts as lts
-use Rattle.vector_store.proofs.refuse.Reads as refuse-reads
 
--- src/lib.rt:38:9
 refuse-requires : tie.Need-refuse-requires
 refuse-requires c κs = search needs
 
--- src/lib.rt:38:9
 returns : tie.Need-returns
 returns c = show-refused (c .before .before .args .dropped) (c .before .before .args .fed) (c .refuse .result) (c .before .if1 .taken) (c .refuse .ensures)
 
--- src/lib.rt:33:1
 returns-2 : tie.Need-returns-2
 returns-2 c = show-good (c .before .before .args .dropped) (c .before .before .args .fed) (c .before .if1 .left)
 

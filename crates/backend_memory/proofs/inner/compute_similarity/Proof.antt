@@ -1,7 +1,7 @@
 -- `backend_memory::inner::compute_similarity` meets its contract. Assumes nothing.
 use native.Mathlib.Omega.{arith}
 use Prim.Native.Nat.{ℕ, _*_}
-use mathlib.Core.Path.{_≡_, _∙_, ap}
+use mathlib.Core.Path.{_∙_, ap}
 use lib.ListN.{length}
 use Rattle.vector.specs.Fold.{squaresOf}
 use Rattle.sqrt.specs.RootOf.{root}
@@ -10,24 +10,16 @@ use Rattle.backend_memory.specs.Ranking.{similarityOf}
 use borrow.Author.Needs.{needs}
 use Rattle.backend_memory.proofs.inner.compute_similarity.Statement.{statement}
 use Rattle.backend_memory.proofs.inner.compute_similarity.Tie as tie
-use Rattle.backend_memory.proofs.inner.compute_similarity.Reads as reads
-use Rattle.backend_memory.proofs.inner.compute_similarity.Lts as lts
-use Rattle.backend_memory.proofs.inner.squares.Reads as squares-reads
-use Rattle.sqrt.proofs.sqrt.Reads as sqrt-reads
 
--- src/inner.rt:42:47
 mul-squares : tie.Need-mul-squares
 mul-squares c = omega (arith, c .before .before .pre .1, c .before .before .good)
 
--- src/inner.rt:42:16
 squares-requires : tie.Need-squares-requires
 squares-requires c κs = omega (arith, c .before .before .pre .0, c .before .before .pre .1)
 
--- src/inner.rt:42:5
 sqrt-requires : tie.Need-sqrt-requires
 sqrt-requires c κs = search needs
 
--- src/inner.rt:38:1
 returns : tie.Need-returns
 unfolding similarityOf
 returns c =

@@ -4,15 +4,10 @@ use Rattle.backend_memory.proofs.Counts.{scan-ranks}
 use borrow.Author.Needs.{needs}
 use Rattle.backend_memory.proofs.inner.find_nearest.Statement.{statement}
 use Rattle.backend_memory.proofs.inner.find_nearest.Tie as tie
-use Rattle.backend_memory.proofs.inner.find_nearest.Reads as reads
-use Rattle.backend_memory.proofs.inner.find_nearest.Lts as lts
-use Rattle.backend_memory.proofs.inner.rank.Reads as rank-reads
 
--- src/inner.rt:97:5
 rank-requires : tie.Need-rank-requires
 rank-requires c κs = search needs
 
--- src/inner.rt:93:1
 returns : tie.Need-returns
 returns c = let a = c .before .before .before .before .args in c .rank .ensures ∙ scan-ranks (a .mode) (a .k) (a .marks .now) (a .vectors .now) (a .target .now)
 

@@ -4,59 +4,46 @@ use borrow.Author.Tests.{not-true, not-false}
 use native.Mathlib.Omega.{arith}
 use native.Mathlib.Nat.{mul-le-mul}
 use Prim.Native.Nat.{ℕ, _≤_, _<_, _-_, _*_, _+_}
-use mathlib.Core.Path.{_≡_, refl, _∙_, ap, sym}
+use mathlib.Core.Path.{_≡_, _∙_, ap, sym, subst}
 use mathlib.Core.Bool.{true, false}
 use lib.Ieee.{Float, isNan}
 use lib.ListN.{length}
-use Rattle.paper.specs.Geometry.{compSize}
 use Rattle.paper.proofs.Geometry.{comp-le}
 use Rattle.index_memory.specs.Memory.{slotBytes}
 use Rattle.index_memory.proofs.Places.{place}
 use Rattle.bitmaps.specs.Walk.{NextIs, idsFrom}
 use Rattle.bitmaps.proofs.Ids.{walk-start}
 use Rattle.bitmaps.specs.declared.Found.the-variants.{At, Nothing}
-use Rattle.result.specs.Sets.{emptySet, fedSet, answer}
+use Rattle.result.specs.Sets.{fedSet, answer, counted}
 use Rattle.result.specs.declared.ResultSet.{ResultSet}
 use Rattle.result.proofs.Tests.{is-nan, no-nan}
 use Rattle.result.specs.Ranked.{entry}
-use Rattle.result.proofs.Keeps.{fed-within, fed-k, fed-checked, empty-k, empty-len, empty-checked}
+use Rattle.result.proofs.Keeps.{Sound, sound-empty, sound-fed, closed-counted, fed-within, fed-k, fed-checked, empty-k, empty-len, empty-checked}
 use Rattle.backend_memory.specs.Ranking.{scored, ranking, rankOf, similarityOf}
 use Rattle.backend_memory.proofs.Turns.{ended, no-mark, bad-score, one-fed}
 use Rattle.backend_memory.proofs.inner.rank.Statement.{statement}
 use Rattle.backend_memory.proofs.inner.rank.Tie as tie
-use Rattle.backend_memory.proofs.inner.rank.Reads as reads
-use Rattle.backend_memory.proofs.inner.rank.Lts as lts
-use Rattle.backend_memory.proofs.inner.compute_similarity.Reads as compute-similarity-reads
-use Rattle.backend_memory.proofs.inner.refuse.Reads as refuse-reads
-use Rattle.backend_memory.proofs.inner.vector_exists.Reads as vector-exists-reads
-use Rattle.bitmaps.proofs.inner.next.Reads as next-reads
-use Rattle.paper.proofs.component_size.Reads as component-size-reads
-use Rattle.result.proofs.ResultSet.empty.Reads as empty-reads
-use Rattle.result.proofs.inner.ranked.Reads as ranked-reads
 
 abbrev Inv-loop : tie.InvT-loop
 Inv-loop ids marks vectors target mode k slot set₀ at₀ set at =
     (at ≤ length ids * 64) × (set .len ≤ set .k) × (set .k ≤ 256) × (set .checked ≤ at)
+    × Sound set
     × (ranking marks (similarityOf mode vectors target) set (idsFrom ids at) ≡ rankOf mode k ids marks vectors target)
 
 abbrev μ-loop : tie.MeasureT-loop
 μ-loop ids marks vectors target mode k slot set₀ at₀ set at = length ids * 64 - at
 
--- src/inner.rt:68:16
 component-size-requires : tie.Need-component-size-requires Inv-loop μ-loop
 component-size-requires c κs = search needs
 
--- src/inner.rt:68:16
 mul-slot : tie.Need-mul-slot Inv-loop μ-loop
 mul-slot c =
     let h : c .component-size .result ≤ 4 = rw (c .component-size .ensures) (comp-le _) in
     omega (arith, mul-le-mul h (c .before .before .before .before .before .pre .d-high))
 
--- src/inner.rt:69:9
 empty-requires : tie.Need-empty-requires Inv-loop μ-loop
 empty-requires c κs = search needs
 
--- src/inner.rt:71:5
 loop-holds : tie.Need-loop-holds Inv-loop μ-loop
 unfolding rankOf
 loop-holds c =
@@ -66,14 +53,13 @@ loop-holds c =
       rw e (omega (arith, empty-len k)),
       rw (e, empty-k k) (c .before .before .before .before .before .before .pre .k-high),
       rw e (omega (arith, empty-checked k)),
+      rw e (sound-empty k (c .before .before .before .before .before .before .pre .k-high)),
       rw (e, walk-start),
     )
 
--- src/inner.rt:72:15
 next-requires : tie.Need-next-requires Inv-loop μ-loop
 next-requires c κs = search needs
 
--- src/inner.rt:73:23
 enum-known-id : tie.Need-enum-known-id Inv-loop μ-loop
 enum-known-id c = search needs
 
@@ -94,31 +80,25 @@ room c =
     rw (size c, c .before .before .before .before .before .before .before .before .before .before .before .pre .vectors)
     (place (c .before .id .given .0 .0) (length (c .before .before .before .before .before .before .before .before .before .before .before .args .ids .now) * 64) (slotBytes (length (c .before .before .before .before .before .before .before .before .before .before .before .args .target .now)) (c .before .before .before .before .before .before .before .before .before .before .before .args .mode)) (got c .1))
 
--- src/inner.rt:74:21
 vector-exists-requires : tie.Need-vector-exists-requires Inv-loop μ-loop
 vector-exists-requires c κs = omega (arith, got c .1, c .before .before .before .before .before .before .before .before .before .before .before .pre .marks)
 
--- src/inner.rt:75:21
 refuse-requires : tie.Need-refuse-requires Inv-loop μ-loop
 refuse-requires c κs = search needs
 
--- src/inner.rt:75:21
 returns : tie.Need-returns Inv-loop μ-loop
 returns c =
     let a = c .before .before .before .before .before .before .before .before .before .before .before .before .before .before .args in
     c .refuse .ensures
     ∙ no-mark (a .marks .now) (a .ids .now) (similarityOf (a .mode) (a .vectors .now) (a .target .now)) (c .before .before .before .before .before .before .before .loop .set) (c .before .before .before .before .before .before .before .loop .at) _ (got (c .before .before .before)) (sym (c .before .before .vector-exists .ensures) ∙ not-true _ (c .before .if1 .taken))
-    ∙ c .before .before .before .before .before .before .before .loop .inv .4
+    ∙ c .before .before .before .before .before .before .before .loop .inv .5
 
--- src/inner.rt:77:21
 compute-similarity-requires : tie.Need-compute-similarity-requires Inv-loop μ-loop
 compute-similarity-requires c κs = (size (c .before .before), room (c .before .before))
 
--- src/inner.rt:79:21
 refuse-requires-2 : tie.Need-refuse-requires-2 Inv-loop μ-loop
 refuse-requires-2 c κs = search needs
 
--- src/inner.rt:79:21
 returns-2 : tie.Need-returns-2 Inv-loop μ-loop
 returns-2 c =
     let a = c .before .before .before .before .before .before .before .before .before .before .before .before .before .before .before .before .args in
@@ -126,52 +106,74 @@ returns-2 c =
     let n : isNan (f (c .before .before .before .before .before .before .id .given .0 .0)) ≡ true = ap isNan (sym (c .before .before .compute-similarity .ensures)) ∙ is-nan _ (c .before .if2 .taken) in
     c .refuse2 .ensures
     ∙ bad-score (a .marks .now) (a .ids .now) f (c .before .before .before .before .before .before .before .before .before .loop .set) (c .before .before .before .before .before .before .before .before .before .loop .at) _ (got (c .before .before .before .before .before)) (sym (c .before .before .before .before .vector-exists .ensures) ∙ not-false _ (c .before .before .before .if1 .left)) n
-    ∙ c .before .before .before .before .before .before .before .before .before .loop .inv .4
+    ∙ c .before .before .before .before .before .before .before .before .before .loop .inv .5
 
--- src/inner.rt:81:50
-cast-ranked : tie.Need-cast-ranked Inv-loop μ-loop
-cast-ranked c = omega (arith, low (c .before .before .before .before))
-
--- src/inner.rt:81:17
-ranked-requires : tie.Need-ranked-requires Inv-loop μ-loop
-ranked-requires c κs = ((c .before .before .before .before .before .before .before .before .loop .inv .1, c .before .before .before .before .before .before .before .before .loop .inv .2), omega (arith, c .before .before .before .before .before .before .before .before .loop .inv .3, c .before .before .before .before .before .before .before .before .loop .inv .0, c .before .before .before .before .before .before .before .before .before .before .before .before .before .before .before .pre .set))
-
--- src/inner.rt:82:22
 add-at : tie.Need-add-at Inv-loop μ-loop
-add-at c = omega (arith, low (c .before .before .before .before .before))
+add-at c = omega (arith, low (c .before .before .before .before))
 
--- src/inner.rt:71:5
+closed-to-requires : tie.Need-closed-to-requires Inv-loop μ-loop
+closed-to-requires c κs = omega (arith, c .before .before .before .before .before .before .before .before .before .before .before .loop .inv .1, c .before .before .before .before .before .before .before .before .before .before .before .loop .inv .2, c .before .before .before .before .before .before .before .before .before .before .before .loop .inv .4 .sims-long)
+
+add-set : tie.Need-add-set Inv-loop μ-loop
+add-set c = omega (arith, c .before .before .before .before .before .before .before .before .before .before .before .before .before .loop .inv .3, c .before .before .before .before .before .before .before .before .before .before .before .before .before .loop .inv .0, c .before .before .before .before .before .before .before .before .before .before .before .before .before .before .before .before .before .before .before .before .pre .set)
+
 loop-less : tie.Need-loop-less Inv-loop μ-loop
-loop-less c = omega (arith, got (c .before .before .before .before .before) .0, got (c .before .before .before .before .before) .1)
+loop-less c = omega (arith, got (c .before .before .before .before .before .before .before .before .before) .0, got (c .before .before .before .before .before .before .before .before .before) .1)
 
--- src/inner.rt:71:5
+-- a candidate that the full list is closed to: it is counted, which is what feeding it comes to
 loop-again : tie.Need-loop-again Inv-loop μ-loop
 loop-again c =
-    let a = c .before .before .before .before .before .before .before .before .before .before .before .before .before .before .before .before .args in
+    let a = c .before .before .before .before .before .before .before .before .before .before .before .before .before .before .before .before .before .before .before .before .args in
     let f = similarityOf (a .mode) (a .vectors .now) (a .target .now) in
-    let i : ℕ = c .before .before .before .before .before .before .id .given .0 .0 in
-    let cur : ResultSet = c .before .before .before .before .before .before .before .before .before .loop .set in
-    let sc : c .before .before .compute-similarity .result ≡ f i = c .before .before .compute-similarity .ensures in
-    let n : isNan (f i) ≡ false = ap isNan (sym sc) ∙ no-nan _ (c .before .if2 .left) in
-    let new : c .ranked .result ≡ fedSet cur (scored f i) = c .ranked .ensures ∙ ap (λ (x : Float). fedSet cur (entry i x)) sc in
-    let again = one-fed (a .marks .now) (a .ids .now) f cur (c .before .before .before .before .before .before .before .before .before .loop .at) i (got (c .before .before .before .before .before)) (sym (c .before .before .before .before .vector-exists .ensures) ∙ not-false _ (c .before .before .before .if1 .left)) n in (
-      omega (arith, got (c .before .before .before .before .before) .1),
-      rw (new, fed-k cur (scored f i)) (fed-within cur (scored f i) (c .before .before .before .before .before .before .before .before .before .loop .inv .1)),
-      rw (new, fed-k cur (scored f i)) (c .before .before .before .before .before .before .before .before .before .loop .inv .2),
-      rw (new, fed-checked cur (scored f i)) (omega (arith, c .before .before .before .before .before .before .before .before .before .loop .inv .3, got (c .before .before .before .before .before) .0)),
-      rw new (again ∙ c .before .before .before .before .before .before .before .before .before .loop .inv .4),
+    let i : ℕ = c .before .before .before .before .before .before .before .before .before .before .id .given .0 .0 in
+    let cur : ResultSet = c .before .before .before .before .before .before .before .before .before .before .before .before .before .loop .set in
+    let sc : c .before .before .before .before .before .before .compute-similarity .result ≡ f i = c .before .before .before .before .before .before .compute-similarity .ensures in
+    let n : isNan (f i) ≡ false = ap isNan (sym sc) ∙ no-nan _ (c .before .before .before .before .before .if2 .left) in
+    let new : counted cur ≡ fedSet cur (scored f i) = closed-counted cur (entry i (c .before .before .before .before .before .before .compute-similarity .result)) (c .before .before .before .before .before .before .before .before .before .before .before .before .before .loop .inv .4) (sym (c .before .closed-to .ensures) ∙ c .if3 .taken) ∙ ap (λ (x : Float). fedSet cur (entry i x)) sc in
+    let again = one-fed (a .marks .now) (a .ids .now) f cur (c .before .before .before .before .before .before .before .before .before .before .before .before .before .loop .at) i (got (c .before .before .before .before .before .before .before .before .before)) (sym (c .before .before .before .before .before .before .before .before .vector-exists .ensures) ∙ not-false _ (c .before .before .before .before .before .before .before .if1 .left)) n in (
+      omega (arith, got (c .before .before .before .before .before .before .before .before .before) .1),
+      c .before .before .before .before .before .before .before .before .before .before .before .before .before .loop .inv .1,
+      c .before .before .before .before .before .before .before .before .before .before .before .before .before .loop .inv .2,
+      omega (arith, c .before .before .before .before .before .before .before .before .before .before .before .before .before .loop .inv .3, got (c .before .before .before .before .before .before .before .before .before) .0),
+      subst Sound (sym new) (sound-fed cur (scored f i) (c .before .before .before .before .before .before .before .before .before .before .before .before .before .loop .inv .4) n),
+      ap (λ (t : ResultSet). ranking (a .marks .now) f t (idsFrom (a .ids .now) (i + 1))) new ∙ again ∙ c .before .before .before .before .before .before .before .before .before .before .before .before .before .loop .inv .5,
     )
 
--- src/inner.rt:85:17
+cast-ranked : tie.Need-cast-ranked Inv-loop μ-loop
+cast-ranked c = omega (arith, low (c .before .before .before .before .before .before .before .before .before))
+
+ranked-requires : tie.Need-ranked-requires Inv-loop μ-loop
+ranked-requires c κs = ((c .before .before .before .before .before .before .before .before .before .before .before .before .before .loop .inv .1, c .before .before .before .before .before .before .before .before .before .before .before .before .before .loop .inv .2), omega (arith, c .before .before .before .before .before .before .before .before .before .before .before .before .before .loop .inv .3, c .before .before .before .before .before .before .before .before .before .before .before .before .before .loop .inv .0, c .before .before .before .before .before .before .before .before .before .before .before .before .before .before .before .before .before .before .before .before .pre .set))
+
+loop-less-2 : tie.Need-loop-less-2 Inv-loop μ-loop
+loop-less-2 c = omega (arith, got (c .before .before .before .before .before .before .before .before .before .before) .0, got (c .before .before .before .before .before .before .before .before .before .before) .1)
+
+loop-again-2 : tie.Need-loop-again-2 Inv-loop μ-loop
+loop-again-2 c =
+    let a = c .before .before .before .before .before .before .before .before .before .before .before .before .before .before .before .before .before .before .before .before .before .args in
+    let f = similarityOf (a .mode) (a .vectors .now) (a .target .now) in
+    let i : ℕ = c .before .before .before .before .before .before .before .before .before .before .before .id .given .0 .0 in
+    let cur : ResultSet = c .before .before .before .before .before .before .before .before .before .before .before .before .before .before .loop .set in
+    let sc : c .before .before .before .before .before .before .before .compute-similarity .result ≡ f i = c .before .before .before .before .before .before .before .compute-similarity .ensures in
+    let n : isNan (f i) ≡ false = ap isNan (sym sc) ∙ no-nan _ (c .before .before .before .before .before .before .if2 .left) in
+    let new : c .ranked .result ≡ fedSet cur (scored f i) = c .ranked .ensures ∙ ap (λ (x : Float). fedSet cur (entry i x)) sc in
+    let again = one-fed (a .marks .now) (a .ids .now) f cur (c .before .before .before .before .before .before .before .before .before .before .before .before .before .before .loop .at) i (got (c .before .before .before .before .before .before .before .before .before .before)) (sym (c .before .before .before .before .before .before .before .before .before .vector-exists .ensures) ∙ not-false _ (c .before .before .before .before .before .before .before .before .if1 .left)) n in (
+      omega (arith, got (c .before .before .before .before .before .before .before .before .before .before) .1),
+      rw (new, fed-k cur (scored f i)) (fed-within cur (scored f i) (c .before .before .before .before .before .before .before .before .before .before .before .before .before .before .loop .inv .1)),
+      rw (new, fed-k cur (scored f i)) (c .before .before .before .before .before .before .before .before .before .before .before .before .before .before .loop .inv .2),
+      rw (new, fed-checked cur (scored f i)) (omega (arith, c .before .before .before .before .before .before .before .before .before .before .before .before .before .before .loop .inv .3, got (c .before .before .before .before .before .before .before .before .before .before) .0)),
+      rw new (sound-fed cur (scored f i) (c .before .before .before .before .before .before .before .before .before .before .before .before .before .before .loop .inv .4) n),
+      rw new (again ∙ c .before .before .before .before .before .before .before .before .before .before .before .before .before .before .loop .inv .5),
+    )
+
 enum-told : tie.Need-enum-told Inv-loop μ-loop
 enum-told c = search needs
 
--- src/inner.rt:85:17
 returns-3 : tie.Need-returns-3 Inv-loop μ-loop
 returns-3 c =
     let a = c .before .before .before .before .before .before .before .before .before .before .args in
     let g : NextIs (a .ids .now) (c .before .before .before .loop .at) Nothing = rw (c .enum-told .given .1) at (c .before .before .next .ensures) in
-    ended (a .marks .now) (a .ids .now) (similarityOf (a .mode) (a .vectors .now) (a .target .now)) (c .before .before .before .loop .set) (c .before .before .before .loop .at) g ∙ c .before .before .before .loop .inv .4
+    ended (a .marks .now) (a .ids .now) (similarityOf (a .mode) (a .vectors .now) (a .target .now)) (c .before .before .before .loop .set) (c .before .before .before .loop .at) g ∙ c .before .before .before .loop .inv .5
 
 pub rank-spec : {M : Type 1} → statement M
 rank-spec =
@@ -191,10 +193,14 @@ rank-spec =
     compute-similarity-requires
     refuse-requires-2
     returns-2
-    cast-ranked
-    ranked-requires
     add-at
+    closed-to-requires
+    add-set
     loop-less
     loop-again
+    cast-ranked
+    ranked-requires
+    loop-less-2
+    loop-again-2
     enum-told
     returns-3)

@@ -2,20 +2,15 @@
 use borrow.Author.Needs.{needs}
 use native.Mathlib.Omega.{arith}
 use native.Mathlib.Nat.{mul-le-mul, le-refl}
-use Prim.Native.Nat.{ℕ, _≤_, _<_, _-_, _*_, _+_}
-use mathlib.Core.Path.{_≡_, refl, _∙_, ap, sym}
-use mathlib.Core.List.{List}
-use lib.ListN.{length, take, drop}
+use Prim.Native.Nat.{_≤_, _-_, _*_, _+_}
+use mathlib.Core.Path.{_≡_, refl, _∙_, ap}
+use lib.ListN.{length}
 use Rattle.index_memory.proofs.Places.{part-end, part-long}
 use Rattle.counting_bitmap.specs.Layers.{empty, mergedAll, droppedAll}
 use Rattle.candidates.specs.Gathering.{Lent, lent, finiteFrom, unionsFrom, layersOf, droppedOf}
 use Rattle.candidates.proofs.Bases.{times-by, was-finite, was-not, one-answer, one-layers, one-dropped, finite-more, finite-stops, merged-more, dropped-more, gather-stopped, gather-ended}
 use Rattle.candidates.proofs.inner.gather.Statement.{statement}
 use Rattle.candidates.proofs.inner.gather.Tie as tie
-use Rattle.candidates.proofs.inner.gather.Reads as reads
-use Rattle.candidates.proofs.inner.gather.Lts as lts
-use Rattle.bitmaps.proofs.inner.clear.Reads as clear-reads
-use Rattle.candidates.proofs.inner.gather_basis.Reads as gather-basis-reads
 
 abbrev Inv-loop : tie.InvT-loop
 Inv-loop bases faces target work₀ layers₀ set₀ n picks square block total₀ b₀ p₀ f₀ work layers set total b p f =
@@ -28,23 +23,18 @@ Inv-loop bases faces target work₀ layers₀ set₀ n picks square block total�
 abbrev μ-loop : tie.MeasureT-loop
 μ-loop bases faces target work₀ layers₀ set₀ n picks square block total₀ b₀ p₀ f₀ work layers set total b p f = n - b
 
--- src/inner.rt:49:18
 mul-square : tie.Need-mul-square Inv-loop μ-loop
 mul-square c = omega (arith, mul-le-mul (c .before .before .before .before .before .before .pre .d-high) (c .before .before .before .before .before .before .pre .d-high))
 
--- src/inner.rt:50:17
 mul-block : tie.Need-mul-block Inv-loop μ-loop
 mul-block c = omega (arith, c .before .before .before .before .before .before .pre .d-high)
 
--- src/inner.rt:50:17
 mul-block-2 : tie.Need-mul-block-2 Inv-loop μ-loop
 mul-block-2 c = omega (arith, mul-le-mul (mul-le-mul (le-refl 2) (c .before .before .before .before .before .before .pre .d-high)) (c .before .before .before .before .before .before .pre .w-high))
 
--- src/inner.rt:55:5
 clear-requires : tie.Need-clear-requires Inv-loop μ-loop
 clear-requires c κs = search needs
 
--- src/inner.rt:56:5
 loop-holds : tie.Need-loop-holds Inv-loop μ-loop
 unfolding layersOf droppedOf
 loop-holds c =
@@ -60,47 +50,36 @@ basis-end c = part-end (c .before .loop .b) (c .before .before .before .before .
 faces-end : (c : tie.In-loop Inv-loop μ-loop) → c .before .loop .f + 2 * length (c .before .before .before .before .before .before .before .before .before .before .before .before .args .target .now) * length (c .before .before .before .before .before .before .before .before .before .before .before .before .args .set .now) ≤ length (c .before .before .before .before .before .before .before .before .before .before .before .before .args .faces .now)
 faces-end c = part-end (c .before .loop .b) (c .before .before .before .before .before .before .before .before .before .before .before .before .args .n) (2 * length (c .before .before .before .before .before .before .before .before .before .before .before .before .args .target .now) * length (c .before .before .before .before .before .before .before .before .before .before .before .before .args .set .now)) (c .before .loop .f) (c .before .before .before .before .before .before .before .before .before .before .before .before .args .faces .now) (c .loop-test .taken) (c .before .loop .inv .2) (c .before .before .before .before .before .before .before .before .before .before .before .before .pre .faces)
 
--- src/inner.rt:57:42
 add-gather-basis : tie.Need-add-gather-basis Inv-loop μ-loop
 add-gather-basis c = omega (arith, basis-end c, c .before .before .before .before .before .before .before .before .before .before .before .before .good)
 
--- src/inner.rt:57:32
 mul-gather-basis : tie.Need-mul-gather-basis Inv-loop μ-loop
 mul-gather-basis c = omega (arith, basis-end c, c .before .before .before .before .before .before .before .before .before .before .before .before .good)
 
--- src/inner.rt:57:32
 sub-gather-basis : tie.Need-sub-gather-basis Inv-loop μ-loop
 sub-gather-basis c = search needs
 
--- src/inner.rt:57:32
 part-gather-basis-start : tie.Need-part-gather-basis-start Inv-loop μ-loop
 part-gather-basis-start c = search needs
 
--- src/inner.rt:57:32
 part-gather-basis-end : tie.Need-part-gather-basis-end Inv-loop μ-loop
 part-gather-basis-end c = omega (arith, basis-end c)
 
--- src/inner.rt:57:65
 add-gather-basis-2 : tie.Need-add-gather-basis-2 Inv-loop μ-loop
 add-gather-basis-2 c = omega (arith, faces-end (c .before), c .before .before .before .before .before .before .before .before .before .before .before .before .before .good)
 
--- src/inner.rt:57:55
 mul-gather-basis-2 : tie.Need-mul-gather-basis-2 Inv-loop μ-loop
 mul-gather-basis-2 c = omega (arith, faces-end (c .before), c .before .before .before .before .before .before .before .before .before .before .before .before .before .good)
 
--- src/inner.rt:57:55
 sub-gather-basis-2 : tie.Need-sub-gather-basis-2 Inv-loop μ-loop
 sub-gather-basis-2 c = search needs
 
--- src/inner.rt:57:55
 part-gather-basis-start-2 : tie.Need-part-gather-basis-start-2 Inv-loop μ-loop
 part-gather-basis-start-2 c = search needs
 
--- src/inner.rt:57:55
 part-gather-basis-end-2 : tie.Need-part-gather-basis-end-2 Inv-loop μ-loop
 part-gather-basis-end-2 c = omega (arith, faces-end (c .before))
 
--- src/inner.rt:57:13
 gather-basis-requires : tie.Need-gather-basis-requires Inv-loop μ-loop
 gather-basis-requires c κs =
     let a = c .before .before .before .before .before .before .before .before .before .before .before .before .before .before .before .before .before .args in
@@ -117,19 +96,15 @@ gather-basis-requires c κs =
       layers = times-by (length (l .layers)) (a .n) w (a .n) (length (l .set)) (l .inv .4) refl (l .inv .5);
     }
 
--- src/inner.rt:59:13
 same-length : tie.Need-same-length Inv-loop μ-loop
 same-length c = search needs
 
--- src/inner.rt:59:13
 same-length-2 : tie.Need-same-length-2 Inv-loop μ-loop
 same-length-2 c = search needs
 
--- src/inner.rt:59:13
 same-length-3 : tie.Need-same-length-3 Inv-loop μ-loop
 same-length-3 c = search needs
 
--- src/inner.rt:59:13
 returns : tie.Need-returns Inv-loop μ-loop
 returns c =
     let a = c .before .before .before .before .before .before .before .before .before .before .before .before .before .before .before .before .before .before .before .before .before .before .before .before .before .before .args in
@@ -139,27 +114,21 @@ returns c =
     let ans = one-answer q (a .n) (l .b) (l .p) (l .f) (length (l .set)) (l .layers) (g .last .1 .1 .1 .1 .0) (g .result) (l .inv .1) (l .inv .2) (l .inv .5) (g .ensures) in
     gather-stopped q (a .n) (l .b) (g .last .1 .1 .1 .1 .0) (finite-stops q (a .n) (l .b) (c .before .before .before .before .before .before .before .before .before .before .before .before .before .before .loop-test .taken) (was-not _ _ ans (c .if1 .taken))) (l .inv .7)
 
--- src/inner.rt:64:9
 add-total : tie.Need-add-total Inv-loop μ-loop
 add-total c = omega (arith, c .before .before .before .before .before .before .before .before .before .gather-basis .ensures .few, c .before .before .before .before .before .before .before .before .before .before .before .before .before .before .before .before .loop .inv .6, c .before .before .before .before .before .before .before .before .before .before .before .before .before .before .before .before .loop .inv .0, c .before .before .before .before .before .before .before .before .before .before .before .before .before .before .before .loop-test .taken, c .before .before .before .before .before .before .before .before .before .before .before .before .before .before .before .before .before .before .before .before .before .before .before .before .before .before .before .pre .n-high)
 
--- src/inner.rt:65:9
 add-p : tie.Need-add-p Inv-loop μ-loop
 add-p c = omega (arith, basis-end (c .before .before .before .before .before .before .before .before .before .before .before .before .before .before .before), c .before .before .before .before .before .before .before .before .before .before .before .before .before .before .before .before .before .before .before .before .before .before .before .before .before .before .before .good)
 
--- src/inner.rt:66:9
 add-f : tie.Need-add-f Inv-loop μ-loop
 add-f c = omega (arith, faces-end (c .before .before .before .before .before .before .before .before .before .before .before .before .before .before .before), c .before .before .before .before .before .before .before .before .before .before .before .before .before .before .before .before .before .before .before .before .before .before .before .before .before .before .before .good)
 
--- src/inner.rt:67:9
 add-b : tie.Need-add-b Inv-loop μ-loop
 add-b c = search needs
 
--- src/inner.rt:56:5
 loop-less : tie.Need-loop-less Inv-loop μ-loop
 loop-less c = search needs
 
--- src/inner.rt:56:5
 loop-again : tie.Need-loop-again Inv-loop μ-loop
 loop-again c =
     let a = c .before .before .before .before .before .before .before .before .before .before .before .before .before .before .before .before .before .before .before .before .before .before .before .before .before .before .before .args in
@@ -186,19 +155,15 @@ loop-again c =
       omega (arith, drp, dm, l .inv .9),
     )
 
--- src/inner.rt:45:1
 same-length-4 : tie.Need-same-length-4 Inv-loop μ-loop
 same-length-4 c = search needs
 
--- src/inner.rt:45:1
 same-length-5 : tie.Need-same-length-5 Inv-loop μ-loop
 same-length-5 c = search needs
 
--- src/inner.rt:45:1
 same-length-6 : tie.Need-same-length-6 Inv-loop μ-loop
 same-length-6 c = search needs
 
--- src/inner.rt:45:1
 returns-2 : tie.Need-returns-2 Inv-loop μ-loop
 returns-2 c =
     let a = c .before .before .before .before .before .before .before .before .before .before .before .before .args in

@@ -1,7 +1,7 @@
 -- `candidates::inner::gather_basis` meets its contract. Assumes nothing.
 use native.Mathlib.Omega.{arith}
 use borrow.Author.Tests.{not-true, not-false}
-use Prim.Native.Nat.{ℕ, _≤_, _*_}
+use Prim.Native.Nat.{ℕ, _*_}
 use mathlib.Core.Path.{_≡_, refl, _∙_, ap, sym}
 use lib.ListN.{length}
 use Rattle.bitmaps.specs.Words.{size}
@@ -11,39 +11,25 @@ use Rattle.candidates.proofs.Bases.{times-by, union-is, few-of, basis-b
 use borrow.Author.Needs.{needs}
 use Rattle.candidates.proofs.inner.gather_basis.Statement.{statement}
 use Rattle.candidates.proofs.inner.gather_basis.Tie as tie
-use Rattle.candidates.proofs.inner.gather_basis.Reads as reads
-use Rattle.candidates.proofs.inner.gather_basis.Lts as lts
-use Rattle.basis.proofs.inner.project.Reads as project-reads
-use Rattle.bitmaps.proofs.inner.clear.Reads as clear-reads
-use Rattle.bitmaps.proofs.inner.count.Reads as count-reads
-use Rattle.candidates.proofs.inner.spill_into.Reads as spill-into-reads
-use Rattle.counting_bitmap.proofs.inner.merge.Reads as merge-reads
-use Rattle.vector.proofs.all_finite.Reads as all-finite-reads
 
--- src/inner.rt:29:5
 project-requires : tie.Need-project-requires
 project-requires c κs = search needs
 
--- src/inner.rt:30:9
 all-finite-requires : tie.Need-all-finite-requires
 all-finite-requires c κs = search needs
 
--- src/inner.rt:31:9
 same-length : tie.Need-same-length
 same-length c = search needs
 
--- src/inner.rt:31:9
 returns : tie.Need-returns
 returns c =
     let a = c .before .before .before .before .before .before .before .before .before .before .before .before .before .args in
     basis-bad (a .n) (length (a .set .now)) (a .picks) (a .basis .now) (a .faces .now) (a .target .now) (a .layers .now) _
     (ap allFinite (sym (c .before .before .before .before .before .project .ensures)) ∙ sym (c .before .all-finite .ensures) ∙ not-true _ (c .if1 .taken))
 
--- src/inner.rt:36:5
 clear-requires : tie.Need-clear-requires
 clear-requires c κs = search needs
 
--- src/inner.rt:37:5
 spill-into-requires : tie.Need-spill-into-requires
 spill-into-requires c κs =
     let a = c .before .before .before .before .before .before .before .before .before .before .before .before .before .before .before .before .before .before .before .args in
@@ -54,7 +40,6 @@ spill-into-requires c κs =
       facable = record { some = omega (arith, c .before .before .before .before .before .before .before .before .before .before .before .before .before .before .before .before .before .before .before .pre .d-low, long); few = omega (arith, c .before .before .before .before .before .before .before .before .before .before .before .before .before .before .before .before .before .before .before .pre .d-high, long); finite = sym (c .before .before .before .before .before .before .before .all-finite .ensures) ∙ not-false _ (c .before .before .before .before .before .before .if1 .left) };
     }
 
--- src/inner.rt:39:5
 merge-requires : tie.Need-merge-requires
 merge-requires c κs =
     let a = c .before .before .before .before .before .before .before .before .before .before .before .before .before .before .before .before .before .before .before .before .before .before .before .before .before .before .args in (
@@ -62,23 +47,18 @@ merge-requires c κs =
       refl,
     )
 
--- src/inner.rt:40:9
 count-requires : tie.Need-count-requires
 count-requires c κs = search needs
 
--- src/inner.rt:25:1
 same-length-2 : tie.Need-same-length-2
 same-length-2 c = search needs
 
--- src/inner.rt:25:1
 same-length-3 : tie.Need-same-length-3
 same-length-3 c = search needs
 
--- src/inner.rt:25:1
 same-length-4 : tie.Need-same-length-4
 same-length-4 c = search needs
 
--- src/inner.rt:25:1
 returns-2 : tie.Need-returns-2
 returns-2 c =
     let a = c .before .before .before .before .before .before .before .before .before .before .before .before .before .before .before .before .before .before .before .before .before .before .before .before .before .before .before .before .before .before .before .before .before .args in

@@ -1,7 +1,7 @@
 -- `candidates::inner::spill_into` meets its contract: what is left to pick gives the whole set. Assumes nothing.
 use borrow.Author.Needs.{needs}
 use native.Mathlib.Omega.{arith}
-use Prim.Native.Nat.{ℕ, _≤_, _<_, _-_, _*_, _+_}
+use Prim.Native.Nat.{_≤_, _<_, _-_, _*_, _+_}
 use mathlib.Core.Path.{_≡_, refl, _∙_, ap, sym}
 use mathlib.Core.Bool.{true}
 use lib.ListN.{length, take, drop}
@@ -13,10 +13,6 @@ use Rattle.candidates.specs.Gathering.{joined}
 use Rattle.candidates.proofs.Spills.{spill-turn, spill-end}
 use Rattle.candidates.proofs.inner.spill_into.Statement.{statement}
 use Rattle.candidates.proofs.inner.spill_into.Tie as tie
-use Rattle.candidates.proofs.inner.spill_into.Reads as reads
-use Rattle.candidates.proofs.inner.spill_into.Lts as lts
-use Rattle.bitmaps.proofs.inner.or.Reads as or-reads
-use Rattle.faces.proofs.inner.pick.Reads as pick-reads
 
 abbrev Inv-loop : tie.InvT-loop
 Inv-loop faces work₀ set₀ picks w i₀ work set i =
@@ -26,13 +22,11 @@ Inv-loop faces work₀ set₀ picks w i₀ work set i =
 abbrev μ-loop : tie.MeasureT-loop
 μ-loop faces work₀ set₀ picks w i₀ work set i = picks - i
 
--- src/inner.rt:15:5
 loop-holds : tie.Need-loop-holds Inv-loop μ-loop
 loop-holds c =
     let e : c .before .before .before .args .picks - 0 ≡ c .before .before .before .args .picks = omega arith in
     (search needs, search needs, search needs, c .before .before .before .pre .facable .finite, rw e)
 
--- src/inner.rt:16:13
 pick-requires : tie.Need-pick-requires Inv-loop μ-loop
 pick-requires c κs = record { some = omega (arith, c .before .before .before .before .before .before .pre .facable .some, c .before .before .loop .inv .1); few = omega (arith, c .before .before .before .before .before .before .pre .facable .few, c .before .before .loop .inv .1); finite = c .before .before .loop .inv .3 }
 
@@ -47,43 +41,33 @@ slot-end c = part-end (c .pick .result) (2 * length (c .before .before .before .
 slot-long : (c : tie.After-pick Inv-loop μ-loop) → length (take (c .pick .result * length (c .before .before .before .before .before .before .before .args .set .now) + length (c .before .before .before .before .before .before .before .args .set .now) - c .pick .result * length (c .before .before .before .before .before .before .before .args .set .now)) (drop (c .pick .result * length (c .before .before .before .before .before .before .before .args .set .now)) (c .before .before .before .before .before .before .before .args .faces .now))) ≡ length (c .before .before .before .before .before .before .before .args .set .now)
 slot-long c = part-long (c .pick .result) (2 * length (c .before .before .before .before .before .before .before .args .work .now)) (length (c .before .before .before .before .before .before .before .args .set .now)) (c .pick .result * length (c .before .before .before .before .before .before .before .args .set .now)) (c .before .before .before .before .before .before .before .args .faces .now) (slot-low c) refl (c .before .before .before .before .before .before .before .pre .faces)
 
--- src/inner.rt:17:17
 mul-a : tie.Need-mul-a Inv-loop μ-loop
 mul-a c = omega (arith, slot-end (c .before .before), c .before .before .before .before .before .before .before .before .before .good)
 
--- src/inner.rt:18:17
 add-e : tie.Need-add-e Inv-loop μ-loop
 add-e c = omega (arith, slot-end (c .before .before), c .before .before .before .before .before .before .before .before .before .good)
 
--- src/inner.rt:19:33
 mul-or : tie.Need-mul-or Inv-loop μ-loop
 mul-or c = omega (arith, slot-end (c .before .before .before), c .before .before .before .before .before .before .before .before .before .before .good)
 
--- src/inner.rt:19:33
 sub-or : tie.Need-sub-or Inv-loop μ-loop
 sub-or c = search needs
 
--- src/inner.rt:19:33
 part-or-start : tie.Need-part-or-start Inv-loop μ-loop
 part-or-start c = search needs
 
--- src/inner.rt:19:33
 part-or-end : tie.Need-part-or-end Inv-loop μ-loop
 part-or-end c = omega (arith, slot-end (c .before .before .before))
 
--- src/inner.rt:19:9
 or-requires : tie.Need-or-requires Inv-loop μ-loop
 or-requires c κs = omega (arith, slot-long (c .before .before .before .before), c .before .before .before .before .before .before .before .loop .inv .2)
 
--- src/inner.rt:20:9
 add-i : tie.Need-add-i Inv-loop μ-loop
 add-i c = search needs
 
--- src/inner.rt:15:5
 loop-less : tie.Need-loop-less Inv-loop μ-loop
 loop-less c = search needs
 
--- src/inner.rt:15:5
 loop-again : tie.Need-loop-again Inv-loop μ-loop
 loop-again c =
     let a = c .before .before .before .before .before .before .before .before .before .before .before .before .before .before .args in
@@ -96,15 +80,12 @@ loop-again c =
       turn ∙ l .inv .4,
     )
 
--- src/inner.rt:9:1
 same-length : tie.Need-same-length Inv-loop μ-loop
 same-length c = search needs
 
--- src/inner.rt:9:1
 same-length-2 : tie.Need-same-length-2 Inv-loop μ-loop
 same-length-2 c = search needs
 
--- src/inner.rt:9:1
 returns : tie.Need-returns Inv-loop μ-loop
 returns c =
     let l = c .before .loop in

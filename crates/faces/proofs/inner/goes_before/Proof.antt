@@ -2,7 +2,7 @@
 use mathlib.Core.Path.{_≡_, refl}
 use mathlib.Core.Bool.{Bool, true, false, not, _&&_, _||_}
 use lib.Ieee.{Float, lt, eq}
-use Rattle.faces.specs.Best.{beats, sizeOf, positive}
+use Rattle.faces.specs.Best.{beats, positive}
 use borrow.Author.Needs.{needs}
 use Rattle.faces.proofs.inner.goes_before.Statement.{statement}
 use Rattle.faces.proofs.inner.goes_before.Tie as tie

@@ -1,5 +1,4 @@
 -- `faces::inner::size_of` meets its contract. Assumes nothing.
-use borrow.Author.Needs.{needs}
 use Rattle.faces.proofs.inner.size_of.Statement.{statement}
 use Rattle.faces.proofs.inner.size_of.Tie as tie
 

@@ -1,6 +1,4 @@
 -- `faces::inner::slot_of` meets its contract. Assumes nothing.
-use mathlib.Core.Path.{_∙_, sym}
-use Rattle.faces.proofs.Laws.{slot-for-low}
 use native.Mathlib.Omega.{arith}
 use borrow.Author.Needs.{needs}
 use Rattle.faces.proofs.inner.slot_of.Statement.{statement}

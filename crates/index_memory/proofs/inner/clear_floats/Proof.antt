@@ -1,10 +1,10 @@
 -- `index_memory::inner::clear_floats` meets its contract. Assumes nothing.
-use Prim.Native.Nat.{ℕ, _+_, _-_, _≤_, _<_}
-use mathlib.Core.Path.{_≡_, _∙_, ap, refl, sym}
-use mathlib.Core.List.{List, _++_, append-nil}
+use Prim.Native.Nat.{_+_, _-_, _≤_, _<_}
+use mathlib.Core.Path.{_≡_, _∙_, refl}
+use mathlib.Core.List.{_++_}
 use borrow.Author.Needs.{needs}
 use native.Mathlib.Omega.{arith}
-use lib.ListN.{length, replicate, drop, set, length-set, drop-of-length-le}
+use lib.ListN.{length, replicate, drop, length-set}
 use lib.Ieee.{binary32, ofBits}
 use Rattle.index_memory.proofs.Fill.{fill-more, fill-none, fill-all}
 use Rattle.index_memory.proofs.inner.clear_floats.Statement.{statement}

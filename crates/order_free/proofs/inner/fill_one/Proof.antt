@@ -1,5 +1,4 @@
 -- `order_free::inner::fill_one` meets its contract, by the contracts of the calls and the theorems. Assumes nothing.
-use mathlib.Core.Path.{_≡_, _∙_, sym, refl}
 use Rattle.paper.specs.Geometry.{geo}
 use Rattle.order_free.specs.Order.{addition}
 use Rattle.order_free.proofs.Reached.{one-filled}

@@ -1,5 +1,5 @@
 -- `order_free::inner::fill_two` meets its contract, by the contracts of the calls and the theorems. Assumes nothing.
-use mathlib.Core.Path.{_≡_, _∙_, sym, refl}
+use mathlib.Core.Path.{_∙_}
 use Rattle.paper.specs.Geometry.{geo}
 use Rattle.order_free.specs.Order.{addition}
 use Rattle.order_free.proofs.Reached.{two-filled}

@@ -3,8 +3,7 @@ use mathlib.Core.Path.{_≡_, sym, ap, _∙_}
 use Prim.Native.Nat.{ℕ}
 use mathlib.Core.List.{List}
 use native.Mathlib.Omega.{arith}
-use lib.Ieee.{Float, binary32, ofBits}
-use Rattle.paper.specs.Geometry.{compSize}
+use lib.Ieee.{binary32, ofBits}
 use Rattle.quantization.specs.Bf16.{widened}
 use Rattle.quantization.specs.Bytes.{leWord}
 use Rattle.quantization.specs.Stored.{decoded, componentAt}

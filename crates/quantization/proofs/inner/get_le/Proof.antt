@@ -1,8 +1,7 @@
-use mathlib.Core.Path.{_≡_, refl, sym, ap, _∙_}
-use Prim.Native.Nat.{ℕ, suc, _+_, _-_, _*_, _^_, _<_, _≤_}
+use mathlib.Core.Path.{_≡_}
+use Prim.Native.Nat.{suc, _+_, _-_, _^_, _<_, _≤_}
 use borrow.Author.Needs.{needs}
 use native.Mathlib.Omega.{arith}
-use lib.ListN.{length, getD}
 use Rattle.quantization.specs.Bytes.{leWord}
 use Rattle.quantization.proofs.Bytes.{word-none, word-step, word-fits, seven, pow-some}
 use Rattle.quantization.proofs.inner.get_le.Statement.{statement}

@@ -3,79 +3,58 @@ use native.Mathlib.Omega.{arith}
 use Rattle.quantization.proofs.Bytes.{word-four}
 use Rattle.quantization.proofs.inner.word4.Statement.{statement}
 use Rattle.quantization.proofs.inner.word4.Tie as tie
-use Rattle.quantization.proofs.inner.word4.Reads as reads
-use Rattle.quantization.proofs.inner.word4.Lts as lts
-use Rattle.quantization.proofs.inner.wide.Reads as wide-reads
 
--- src/inner.rt:73:10
 shared-slice-read-wide : tie.Need-shared-slice-read-wide
 shared-slice-read-wide c = search needs
 
--- src/inner.rt:73:5
 wide-requires : tie.Need-wide-requires
 wide-requires c κs = search needs
 
--- src/inner.rt:73:32
 add-wide : tie.Need-add-wide
 add-wide c = search needs
 
--- src/inner.rt:73:30
 shared-slice-read-wide-2 : tie.Need-shared-slice-read-wide-2
 shared-slice-read-wide-2 c = search needs
 
--- src/inner.rt:73:25
 wide-requires-2 : tie.Need-wide-requires-2
 wide-requires-2 c κs = search needs
 
--- src/inner.rt:73:19
 mul-result : tie.Need-mul-result
 mul-result c = search needs
 
--- src/inner.rt:73:5
 add-result : tie.Need-add-result
 add-result c = search needs
 
--- src/inner.rt:73:58
 add-wide-2 : tie.Need-add-wide-2
 add-wide-2 c = search needs
 
--- src/inner.rt:73:56
 shared-slice-read-wide-3 : tie.Need-shared-slice-read-wide-3
 shared-slice-read-wide-3 c = search needs
 
--- src/inner.rt:73:51
 wide-requires-3 : tie.Need-wide-requires-3
 wide-requires-3 c κs = search needs
 
--- src/inner.rt:73:43
 mul-result-2 : tie.Need-mul-result-2
 mul-result-2 c = search needs
 
--- src/inner.rt:73:5
 add-result-2 : tie.Need-add-result-2
 add-result-2 c = search needs
 
--- src/inner.rt:73:87
 add-wide-3 : tie.Need-add-wide-3
 add-wide-3 c = search needs
 
--- src/inner.rt:73:85
 shared-slice-read-wide-4 : tie.Need-shared-slice-read-wide-4
 shared-slice-read-wide-4 c = search needs
 
--- src/inner.rt:73:80
 wide-requires-4 : tie.Need-wide-requires-4
 wide-requires-4 c κs = search needs
 
--- src/inner.rt:73:69
 mul-result-3 : tie.Need-mul-result-3
 mul-result-3 c = search needs
 
--- src/inner.rt:73:5
 add-result-3 : tie.Need-add-result-3
 add-result-3 c = search needs
 
--- src/inner.rt:69:1
 returns : tie.Need-returns
 returns c = omega (arith, word-four (c .before .before .before .before .before .before .before .before .before .args .s .now) (c .before .before .before .before .before .before .before .before .before .args .at), c .before .before .before .before .before .before .wide .ensures .0, c .before .before .before .before .wide2 .ensures .0, c .before .before .wide3 .ensures .0, c .wide4 .ensures .0)
 

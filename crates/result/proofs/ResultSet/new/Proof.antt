@@ -1,4 +1,3 @@
-use Prim.Native.Nat.{_-_}
 use Rattle.result.proofs.Answers.{made, made-refused}
 use borrow.Author.Needs.{needs}
 use Rattle.result.proofs.ResultSet.new.Statement.{statement}

@@ -1,6 +1,5 @@
 use borrow.Author.Tests.{not-true, not-false}
 use mathlib.Core.Path.{refl, sym, _∙_}
-use Prim.Native.Nat.{_-_}
 use Rattle.result.proofs.Answers.{form-k, form-len, form-rest}
 use mathlib.Core.Bool.{true, false}
 use borrow.Author.Needs.{needs}

@@ -1,4 +1,3 @@
-use Prim.Native.Nat.{_-_}
 use Rattle.result.proofs.Answers.{full-room, full-none, full-last}
 use borrow.Author.Needs.{needs}
 use Rattle.result.proofs.inner.closed_to.Statement.{statement}

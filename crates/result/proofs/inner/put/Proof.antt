@@ -1,6 +1,5 @@
 use borrow.Author.Needs.{needs, length-unmapped}
 use mathlib.Core.Path.{_≡_, refl, _∙_}
-use Prim.Native.Nat.{_-_}
 use native.Mathlib.Omega.{arith}
 use lib.ListN.{length}
 use Rattle.result.specs.Ranked.{entry}

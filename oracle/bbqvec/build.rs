@@ -17,10 +17,12 @@ fn lay(from: &Path, to: &Path) {
 
 fn main() {
     let out = Path::new(&env::var("OUT_DIR").unwrap()).join("src");
-    lay(Path::new("../published/src"), &out);
-    let stand_ins = Path::new("../stand-ins");
+    // The bench builds the same crate twice, from folders of its own.
+    let oracle = Path::new(if Path::new("../published").is_dir() { ".." } else { "../../oracle" });
+    let (published, stand_ins) = (oracle.join("published/src"), oracle.join("stand-ins"));
+    lay(&published, &out);
     fs::write(out.join("helpers.rs"), fs::read(stand_ins.join("helpers.rs")).unwrap()).unwrap();
     fs::write(out.join("spaces/mod.rs"), fs::read(stand_ins.join("spaces-mod.rs")).unwrap()).unwrap();
-    println!("cargo:rerun-if-changed=../published/src");
-    println!("cargo:rerun-if-changed=../stand-ins");
+    println!("cargo:rerun-if-changed={}", published.display());
+    println!("cargo:rerun-if-changed={}", stand_ins.display());
 }

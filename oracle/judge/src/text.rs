@@ -1,11 +1,13 @@
 //! Numbers as text: floats are eight hexadecimal digits, words sixteen, halves four, all else decimal; blanks between.
 
-/// The bits of a float, every NaN written 7fc00000: which NaN an operation gives is not fixed.
+/// The bits of a float, every NaN written 7fc00000: which NaN an operation gives is not fixed. The bits go through a black box, since a
+/// compiler may otherwise take "7fc00000 if NaN, else itself" for "itself" (seen behind a square root, rustc 1.95 on aarch64).
 pub fn bits(x: f32) -> u32 {
-    if x.is_nan() {
+    let bits = std::hint::black_box(x.to_bits());
+    if bits & 0x7fffffff > 0x7f800000 {
         0x7fc00000
     } else {
-        x.to_bits()
+        bits
     }
 }
 

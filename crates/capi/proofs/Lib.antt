@@ -1,0 +1,5 @@
+-- Laws that belong to no one function.
+pub mod Places
+pub mod Singles
+pub mod Feeds
+pub mod Cases

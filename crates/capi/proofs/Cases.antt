@@ -1,14 +1,12 @@
 -- The ways through the calls that write a list, on plain values. Assumes nothing.
-use Prim.Native.Nat.{ℕ, _≤_}
+use Prim.Native.Nat.{ℕ}
 use native.Mathlib.Omega.{arith}
-use mathlib.Core.Path.{_≡_, refl, sym, ap, _∙_}
-use mathlib.Core.Bool.{Bool, true, false}
+use mathlib.Core.Path.{_≡_, sym, ap, _∙_}
+use mathlib.Core.Bool.{true, false}
 use mathlib.Core.List.{List, [], _∷_, map}
 use lib.Dec.{eqb}
 use lib.Ieee.{Float}
-use lib.ListN.{length}
 use borrow.Author.Tests.{ne-eqb, eqb-true}
-use Rattle.paper.specs.Choice.{_and_, pick}
 use Rattle.paper.specs.Geometry.{Geo, geoOk}
 use Rattle.paper.proofs.Choice.{and-l, and-r}
 use Rattle.index_memory.specs.Memory.{Ix}

@@ -8,8 +8,8 @@ use mathlib.Core.List.{List, [], _∷_}
 use lib.Dec.{eqb, leb}
 use lib.Ieee.{Float}
 use lib.ListN.{length, drop, getD}
-use borrow.Author.Tests.{eq-eqb, ne-eqb, eqb-true, eqb-false, leb-true}
-use Rattle.paper.specs.Choice.{_and_, pick, refuse}
+use borrow.Author.Tests.{eq-eqb, ne-eqb, leb-true}
+use Rattle.paper.specs.Choice.{pick}
 use Rattle.result.specs.Ranked.{Entry, entry}
 use Rattle.result.specs.Places.{entries}
 use Rattle.result.specs.Sets.{emptySet, answer, madeOf, fedSet, feedRefusal, feedOf, feedAllOf}

@@ -7,7 +7,7 @@ use mathlib.Core.List.{List, [], _∷_}
 use lib.Dec.{eqb, leb}
 use lib.IntN.{ℤ}
 use lib.Ieee.{Float}
-use lib.ListN.{length, set}
+use lib.ListN.{length}
 use borrow.Author.Tests.{eq-eqb, ne-eqb, eqb-true, leb-true}
 use Rattle.paper.specs.Choice.{pick}
 use Rattle.paper.specs.Geometry.{setWords}
@@ -22,16 +22,14 @@ use Rattle.faces.specs.declared.Facing.{Facing}
 use Rattle.faces.specs.declared.Facing.the-variants as Facing
 use Rattle.faces.proofs.Laws.{picks-within}
 use Rattle.bitmaps.specs.Words.{size}
-use Rattle.bitmaps.specs.Answers.{unlessRefused}
-use Rattle.counting_bitmap.specs.Layers.{merged, fallen}
+use Rattle.counting_bitmap.specs.Layers.{fallen}
 use Rattle.counting_bitmap.specs.TopLayer.{topOf}
 use Rattle.counting_bitmap.specs.Answers.{layersOk, layersFault, mergeFault, mergedOf, MergeIs, topFault, topNumber, chosenOf, ChosenIs}
-use Rattle.counting_bitmap.specs.declared.Top.{Top}
 use Rattle.counting_bitmap.specs.declared.Merged.{Merged}
 use Rattle.counting_bitmap.specs.declared.Chosen.{Chosen}
 use Rattle.capi.specs.Single.{Single, single, kept, intoOne, dimsOk, faceInto, numberPut, facePut, droppedPut, layerPut}
 use Rattle.capi.specs.Lists.{laidOver}
-use Rattle.capi.specs.Layers.{Counted, countedIn, orKept, orInto, topInto, Spilt, spilt, intoFaces, spillInto}
+use Rattle.capi.specs.Layers.{countedIn, orInto, topInto, Spilt, spilt, intoFaces, spillInto}
 
 -- ---- the answer of a crate below is the value unless it is refused
 

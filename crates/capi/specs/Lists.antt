@@ -1,7 +1,6 @@
 -- Calls that write a list into lent arrays: ids, scores, and what is told beside them (01, "Refusal numbers"). Definitions only.
 use Prim.Native.Nat.{ℕ, _≤_}
 use mathlib.Core.Bool.{Bool}
-use mathlib.Core.Path.{_≡_}
 use mathlib.Core.List.{List, [], _∷_, _++_}
 use lib.Dec.{eqb}
 use lib.Ieee.{Float}
@@ -14,7 +13,7 @@ use Rattle.result.specs.Sets.{madeOf, feedAllOf}
 use Rattle.result.specs.declared.ResultSet.{ResultSet}
 use Rattle.result.specs.declared.Fed.{Fed}
 use Rattle.backend_memory.specs.Scan.{scanOf}
-use Rattle.vector_store.specs.Search.{Work, Searched, searchOf}
+use Rattle.vector_store.specs.Search.{Work, searchOf}
 use Rattle.vector_store.specs.declared.Nearest.{Nearest}
 
 -- the lent arrays

@@ -1,12 +1,11 @@
 -- `capi::bbq_bases_len` meets its contract. Assumes nothing.
 use mathlib.Core.Path.{ap}
-use borrow.Author.Needs.{needs}
 use Rattle.paper.specs.declared.Lengths.{Lengths}
 use Rattle.capi.proofs.bbq_bases_len.Statement.{statement}
 use Rattle.capi.proofs.bbq_bases_len.Tie as tie
 
 lengths-for-requires : tie.Need-lengths-for-requires
-lengths-for-requires c κs = search needs
+lengths-for-requires c κs = tt
 
 returns : tie.Need-returns
 returns c = ap (λ (l : Lengths). l .bases) (c .lengths-for .ensures)

@@ -1,0 +1,4 @@
+-- What the program's parts promise.
+pub mod Steps
+pub mod Draws
+pub mod Digests

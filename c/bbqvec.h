@@ -1,6 +1,6 @@
 /*
- * bbqvec.h: the vector index as C calls it. The functions are those of the proved crate `capi`: link its object, or the
- * static library that `rt staticlib capi` writes.
+ * bbqvec.h: the vector index as C calls it. The functions are those of the proved crates `capi_numbers`,
+ * `capi_vectors`, `capi_sets` and `capi_index`: link the object or the static library that `tools/library` makes of them.
  *
  * Memory. Nothing is allocated and nothing is kept between calls: the caller owns all memory and lends it for the length
  * of a call, each piece as a pointer and its number of elements. What a call may write is lent without `const`. The caller

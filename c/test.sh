@@ -2,7 +2,7 @@
 # test.sh OBJECT: compiles the example and the test against the object, or the static library, that has the calls, and compares
 # what they write. CC names another C compiler.
 set -eu
-[ $# -eq 1 ] || { echo "usage: test.sh OBJECT (the compiled crate capi: an object file or a static library)" >&2; exit 2; }
+[ $# -eq 1 ] || { echo "usage: test.sh OBJECT (the object file or the static library that tools/library writes)" >&2; exit 2; }
 case $1 in /*) object=$1 ;; *) object=$PWD/$1 ;; esac
 cd "$(dirname "$0")"
 room=$(mktemp -d)

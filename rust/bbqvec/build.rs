@@ -1,4 +1,4 @@
-//! Links the compiled calls. BBQVEC_OBJECT names them: an object file or a static library of the proved crate `capi`.
+//! Links the compiled calls. BBQVEC_OBJECT names them: the object file or the static library that tools/library writes.
 use std::env;
 use std::fs;
 use std::path::{Path, PathBuf};
@@ -8,7 +8,7 @@ fn main() {
     println!("cargo:rerun-if-env-changed=BBQVEC_OBJECT");
     println!("cargo:rerun-if-env-changed=AR");
     let Some(object) = env::var_os("BBQVEC_OBJECT").map(PathBuf::from) else {
-        panic!("set BBQVEC_OBJECT to the object file or the static library of the crate capi, by its full path");
+        panic!("set BBQVEC_OBJECT to the object file or the static library that tools/library writes, by its full path");
     };
     println!("cargo:rerun-if-changed={}", object.display());
     let out = PathBuf::from(env::var_os("OUT_DIR").expect("cargo sets OUT_DIR"));

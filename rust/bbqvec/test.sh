@@ -1,7 +1,7 @@
 #!/bin/sh
 # test.sh OBJECT: builds the wrapper against the object, or the static library, that has the calls; runs its tests and its example.
 set -eu
-[ $# -eq 1 ] || { echo "usage: test.sh OBJECT (the compiled crate capi: an object file or a static library)" >&2; exit 2; }
+[ $# -eq 1 ] || { echo "usage: test.sh OBJECT (the object file or the static library that tools/library writes)" >&2; exit 2; }
 case $1 in /*) object=$1 ;; *) object=$PWD/$1 ;; esac
 cd "$(dirname "$0")"
 room=$(mktemp -d)

@@ -13,7 +13,8 @@ use Rattle.paper.specs.Geometry.{Geo, geo, geoOk}
 use Rattle.index_memory.specs.Memory.{Ix, ixOf, floatZeros}
 use Rattle.vector.specs.Finite.{allFinite}
 use Rattle.vector.specs.Norm.{normNumber}
-use Rattle.adding.specs.Adding.{faceSlot, projectionsFinite, addedIx, writtenIx, lengthsOk, shapeRefusal, lateRefusal, addRefusal, Added, added, workAfter, addOf, Shaped, SlotsAre}
+use Rattle.basis.specs.Bases.{projectionsFinite}
+use Rattle.adding.specs.Adding.{faceSlot, addedIx, writtenIx, lengthsOk, shapeRefusal, lateRefusal, addRefusal, Added, added, workAfter, addOf, Shaped, SlotsAre}
 use Rattle.adding.proofs.Shape.{shape-high}
 use Rattle.adding.proofs.Turns.{with-same}
 

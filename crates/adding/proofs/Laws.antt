@@ -13,7 +13,7 @@ use lib.ListN.{length, getD, take, drop}
 use lib.Seq.{sets, getD-take, getD-drop}
 use Rattle.paper.specs.Choice.{pick, refuse}
 use Rattle.paper.specs.Geometry.{Geo, compSize, setWords}
-use Rattle.index_memory.specs.Memory.{Ix, basisAt, faceBit, slotBytes, slotAt}
+use Rattle.index_memory.specs.Memory.{Ix, faceBit, slotBytes, slotAt}
 use Rattle.index_memory.proofs.Places.{place, face-bit-word, face-bit-digit}
 use Rattle.bitmaps.specs.Words.{has}
 use Rattle.vector.specs.Finite.{allFinite}
@@ -24,7 +24,8 @@ use Rattle.faces.specs.Slots.{slotOf}
 use Rattle.faces.proofs.Laws.{slot-low}
 use Rattle.quantization.specs.Stored.{lowerBytes, components, restored, Fit}
 use Rattle.quantization.proofs.Stored.{components-back}
-use Rattle.adding.specs.Adding.{projectionAt, faceSlot, projectionsFinite, withVector, addedIx, shapeRefusal, lateRefusal, addRefusal, addOf, Shaped}
+use Rattle.basis.specs.Bases.{basisAt, projectionAt, projectionsFinite}
+use Rattle.adding.specs.Adding.{faceSlot, withVector, addedIx, shapeRefusal, lateRefusal, addRefusal, addOf, Shaped}
 use Rattle.adding.proofs.Shape.{shaped}
 use Rattle.adding.proofs.Turns.{length-lowered}
 use Rattle.adding.proofs.Cases.{refusal-split}

@@ -20,21 +20,12 @@ use Rattle.basis.specs.Project.{projected}
 use Rattle.quantization.specs.Stored.{compBytes, lowerBytes}
 use Rattle.quantization.proofs.Sets.{sets-append}
 use Rattle.quantization.proofs.Stored.{length-lower}
-use Rattle.adding.specs.Adding.{projectionAt, faceSlot, projectionsFinite, withFaces}
+use Rattle.basis.specs.Bases.{projectionAt, projectionsFinite}
+use Rattle.adding.specs.Adding.{faceSlot, withFaces}
 
 -- ---- copying
 
 module _ {A : Type 0} where
-  pub copy-more : (s d : List A) (i : ℕ) (z : A) → length d ≡ length s → i < length s → set (take i s ++ drop i d) i (getD s i z) ≡ take (i + 1) s ++ drop (i + 1) d
-  copy-more [] d i z e h = absurd (not-suc-le-zero h)
-  copy-more (x ∷ s) [] i z e h = let no : ⊥ = omega arith in absurd no
-  copy-more (x ∷ s) (y ∷ d) zero z e h = refl
-  copy-more (x ∷ s) (y ∷ d) (suc i) z e h =
-      let h' : i < length s = omega arith in
-      let e' : length d ≡ length s = omega arith in
-      let k : suc i + 1 ≡ suc (i + 1) = omega arith in
-      rw k (ap (λ (r : List A). x ∷ r) (copy-more s d i z e' h'))
-
   pub copy-all : (s d : List A) (i : ℕ) → i ≡ length s → length d ≡ length s → take i s ++ drop i d ≡ s
   copy-all s d i e k =
       let le : length d ≤ i = omega arith in
@@ -50,26 +41,6 @@ projection-here d p b bs v e = rw (part-is b (d * d) p bs e)
 -- the next basis begins where this one ends
 pub next-part : (b s p : ℕ) → p ≡ b * s → p + s ≡ (b + 1) * s
 next-part b s p e = omega arith
-
-pub finite-more : (d : ℕ) (bs v : List Float) (b : ℕ) → projectionsFinite d bs v b ≡ true → allFinite (projectionAt d bs v b) ≡ true → projectionsFinite d bs v (b + 1) ≡ true
-unfolding projectionsFinite
-finite-more d bs v b p q = rw (add-one, p) q
-
-first-false : (x y : Bool) → x ≡ false → (x and y) ≡ false
-first-false x y e = rw e
-
-last-false : (x y : Bool) → y ≡ false → (x and y) ≡ false
-last-false true y e = e
-last-false false y e = refl
-
-pub finite-no : (d : ℕ) (bs v : List Float) (n b : ℕ) → b < n → allFinite (projectionAt d bs v b) ≡ false → projectionsFinite d bs v n ≡ false
-unfolding projectionsFinite
-finite-no d bs v zero b h e = absurd (not-suc-le-zero h)
-finite-no d bs v (suc n) b h e = go (ℕ-discrete b n) (λ lt. finite-no d bs v n b lt e)
-  where
-    go : Dec (b ≡ n) → (b < n → projectionsFinite d bs v n ≡ false) → projectionsFinite d bs v (suc n) ≡ false
-    go (yes q) ih = last-false (projectionsFinite d bs v n) _ (ap (λ (k : ℕ). allFinite (projectionAt d bs v k)) (sym q) ∙ e)
-    go (no ne) ih = let lt : b < n = omega arith in first-false (projectionsFinite d bs v n) _ (ih lt)
 
 -- one more slot written
 pub slot-more : (f : ℕ → ℕ) (slots : List ℕ) (b s : ℕ) → b < length slots → ((j : ℕ) → j < b → getD slots j 0 ≡ f j) → s ≡ f b → (j : ℕ) → j < b + 1 → getD (set slots b s) j 0 ≡ f j

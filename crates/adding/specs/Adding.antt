@@ -9,29 +9,20 @@ use lib.ListN.{length, getD}
 use lib.Seq.{sets}
 use Rattle.paper.specs.Choice.{_and_, pick, refuse}
 use Rattle.paper.specs.Geometry.{Geo, geo, geoOk, GeoFacts, compSize, setWords, basesLen, faceWords, vectorBytes}
-use Rattle.index_memory.specs.Memory.{Ix, ixOf, ownOk, basesOk, basisAt, faceBit, slotBytes, slotAt, floatZeros}
+use Rattle.index_memory.specs.Memory.{Ix, ixOf, ownOk, basesOk, faceBit, slotBytes, slotAt, floatZeros}
 use Rattle.bitmaps.specs.Words.{inserted}
 use Rattle.vector.specs.Finite.{allFinite}
 use Rattle.vector.specs.Norm.{normNumber, normalized}
-use Rattle.basis.specs.Project.{projected}
+use Rattle.basis.specs.Bases.{projectionAt, projectionsFinite}
 use Rattle.faces.specs.Slots.{slotOf}
 use Rattle.quantization.specs.Stored.{lowerBytes}
 use Rattle.adding.specs.declared.Slots.{Slots}
 
 -- ---- the faces of a vector
 
--- the vector as given, projected on basis b
-unfoldable pub projectionAt : ℕ → List Float → List Float → ℕ → List Float
-projectionAt d bs v b = projected (basisAt bs d b) v
-
--- the slot of its face there
+-- the slot of the face of the vector as given, on basis b
 abbrev pub faceSlot : ℕ → List Float → List Float → ℕ → ℕ
 faceSlot d bs v b = slotOf (projectionAt d bs v b)
-
--- whether every entry of its projections on the first n bases is finite
-unfoldable pub projectionsFinite : ℕ → List Float → List Float → ℕ → Bool
-projectionsFinite d bs v zero = true
-projectionsFinite d bs v (suc b) = projectionsFinite d bs v b and allFinite (projectionAt d bs v b)
 
 -- ---- an accepted addition
 

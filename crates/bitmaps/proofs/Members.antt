@@ -7,6 +7,7 @@ use mathlib.Core.Path.{_≡_, refl, ap, sym, _∙_}
 use mathlib.Core.Logic.{⊎-elim}
 use mathlib.Core.List.{List}
 use lib.Dec.{eqb}
+use lib.Pow.{pow-pos}
 use lib.ListN.{length, getD}
 use lib.Seq.{ext-getD}
 use borrow.Author.Tests.{eq-eqb, ne-eqb}
@@ -56,6 +57,9 @@ pub word-empty : (m i : ℕ) → _≡_ {A = ℕ} (getD (empty m) i 0) 0
 word-empty zero i = refl
 word-empty (suc m) zero = refl
 word-empty (suc m) (suc i) = word-empty m i
+
+pub words-empty : (m : ℕ) → Words (empty m)
+words-empty m i = rw (word-empty m i) (pow-pos 64)
 
 pub has-empty : (m i : ℕ) → has (empty m) i ≡ 0
 has-empty m i = rw (word-empty m (i / 64), zero-div)

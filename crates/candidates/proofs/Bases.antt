@@ -8,7 +8,6 @@ use mathlib.Core.List.{List, [], _∷_}
 use lib.Ieee.{Float}
 use lib.ListN.{length, take, drop, length-replicate}
 use Rattle.paper.specs.Choice.{refuse}
-use Rattle.index_memory.specs.Memory.{basisAt}
 use Rattle.index_memory.proofs.Places.{part-is}
 use Rattle.bitmaps.specs.Words.{size}
 use Rattle.bitmaps.proofs.Size.{size-le}
@@ -16,8 +15,9 @@ use Rattle.bitmaps.proofs.Digits.{Words}
 use Rattle.counting_bitmap.specs.Layers.{empty, merged, fallen, mergedAll, droppedAll}
 use Rattle.vector.specs.Finite.{allFinite}
 use Rattle.basis.specs.Project.{projected}
+use Rattle.basis.specs.Bases.{basisAt, projectionAt}
 use Rattle.faces.specs.Slots.{slots}
-use Rattle.candidates.specs.Gathering.{joined, unionOf, facesAt, Lent, projectionAt, unionAt, finiteFrom, unionsFrom, layersOf, droppedOf, BasisIs, GatherIs}
+use Rattle.candidates.specs.Gathering.{joined, unionOf, facesAt, Lent, targetOn, targetFinite, unionAt, unionsFrom, layersOf, droppedOf, BasisIs, GatherIs}
 use Rattle.candidates.specs.declared.Gathered.{Gathered}
 
 -- a product, where the factors' names change
@@ -60,7 +60,7 @@ module _ (q : Lent) (n b p f w : ℕ) (ls ls′ : List ℕ) (r : Gathered)
   one : BasisIs n (q .w) (q .picks) (basisAt (q .bases) (length (q .target)) b) (facesAt (q .faces) (length (q .target)) (q .w) b) (q .target) ls r ls′
   one = rw (part-is b (length (q .target) * length (q .target)) p (q .bases) ep, part-is b (2 * length (q .target) * q .w) f (q .faces) ef, ew) at o
 
-  pub one-answer : r .refusal ≡ refuse 7 (allFinite (projectionAt q b)) 0
+  pub one-answer : r .refusal ≡ refuse 7 (allFinite (targetOn q b)) 0
   unfolding projectionAt
   one-answer = one .answer
 
@@ -78,14 +78,6 @@ module _ (q : Lent) (n b : ℕ) (h : b < n) where
   more : n - b ≡ suc (n - (b + 1))
   more = omega arith
 
-  pub finite-more : allFinite (projectionAt q b) ≡ true → finiteFrom q (n - (b + 1)) (b + 1) ≡ finiteFrom q (n - b) b
-  unfolding finiteFrom
-  finite-more e = rw (more, e, add-one)
-
-  pub finite-stops : allFinite (projectionAt q b) ≡ false → finiteFrom q (n - b) b ≡ false
-  unfolding finiteFrom
-  finite-stops e = rw (more, e)
-
   unions-more : unionsFrom q (n - b) b ≡ unionAt q b ∷ unionsFrom q (n - (b + 1)) (b + 1)
   unfolding unionsFrom
   unions-more = rw (more, add-one)
@@ -98,21 +90,21 @@ module _ (q : Lent) (n b : ℕ) (h : b < n) where
   unfolding droppedAll
   dropped-more ls ls′ e = rw (unions-more, e)
 
-module _ (q : Lent) (n b : ℕ) where
-  pub gather-stopped : (ls : List ℕ) → finiteFrom q (n - b) b ≡ false → finiteFrom q (n - b) b ≡ finiteFrom q n 0 → GatherIs n q (record { refusal = 7; dropped = 0 }) ls
-  gather-stopped ls e i =
-      let no : finiteFrom q n 0 ≡ false = sym i ∙ e in
-      record { answer = rw no; layers = λ (z : _≡_ {A = ℕ} 7 0). absurd (omega arith); dropped = λ (z : _≡_ {A = ℕ} 7 0). absurd (omega arith) }
+module _ (q : Lent) (n : ℕ) where
+  pub gather-stopped : (ls : List ℕ) → targetFinite q n ≡ false → GatherIs n q (record { refusal = 7; dropped = 0 }) ls
+  gather-stopped ls e =
+      record { answer = rw e; layers = λ (z : _≡_ {A = ℕ} 7 0). absurd (omega arith); dropped = λ (z : _≡_ {A = ℕ} 7 0). absurd (omega arith) }
 
-  pub gather-ended : (ls : List ℕ) (total : ℕ) → n ≤ b
-      → finiteFrom q (n - b) b ≡ finiteFrom q n 0
+  pub gather-ended : (b : ℕ) (ls : List ℕ) (total : ℕ) → n ≤ b → b ≤ n
+      → targetFinite q b ≡ true
       → mergedAll n (q .w) ls (unionsFrom q (n - b) b) ≡ layersOf n q
       → total + droppedAll n (q .w) ls (unionsFrom q (n - b) b) ≡ droppedOf n q
       → GatherIs n q (record { refusal = 0; dropped = total }) ls
-  unfolding finiteFrom unionsFrom mergedAll droppedAll
-  gather-ended ls total h i m d =
+  unfolding unionsFrom mergedAll droppedAll
+  gather-ended b ls total h l i m d =
       let z : n - b ≡ 0 = omega arith in
-      let yes : true ≡ finiteFrom q n 0 = rw z at i in
+      let e : n ≡ b = omega arith in
+      let yes : targetFinite q n ≡ true = ap (targetFinite q) e ∙ i in
       let m′ : ls ≡ layersOf n q = rw z at m in
       let d′ : total + 0 ≡ droppedOf n q = rw z at d in
-      record { answer = rw (sym yes); layers = λ x. m′; dropped = λ x. omega (arith, d′) }
+      record { answer = rw yes; layers = λ x. m′; dropped = λ x. omega (arith, d′) }

@@ -15,7 +15,7 @@ use Rattle.counting_bitmap.proofs.Counting.{counts}
 use Rattle.counting_bitmap.proofs.Dropped.{drops-nothing}
 use Rattle.faces.specs.Slots.{slotOf, pickedOf, slots, picksOf}
 use Rattle.faces.proofs.Laws.{slot-low, length-picked, slots-begin, picks-more}
-use Rattle.candidates.specs.Gathering.{faceSet, joined, unionOf, Lent, lent, facesAt, projectionAt, unionAt, unionsFrom, layersOf, droppedOf}
+use Rattle.candidates.specs.Gathering.{faceSet, joined, unionOf, Lent, lent, facesAt, targetOn, unionAt, unionsFrom, layersOf, droppedOf}
 
 -- ---- the union of a basis
 
@@ -78,7 +78,7 @@ unions-sized : (q : Lent) (m b : ℕ) → Sized (q .w) (unionsFrom q m b)
 unfolding unionsFrom unionAt
 unions-sized q zero b = none
 unions-sized q (suc m) b =
-    more (union-long (q .picks) (q .w) (facesAt (q .faces) (length (q .target)) (q .w) b) (projectionAt q b)) (unions-sized q m (suc b))
+    more (union-long (q .picks) (q .w) (facesAt (q .faces) (length (q .target)) (q .w) b) (targetOn q b)) (unions-sized q m (suc b))
 
 unions-many : (q : Lent) (m b : ℕ) → length (unionsFrom q m b) ≡ m
 unfolding unionsFrom

@@ -6,9 +6,10 @@ use lib.Bits.{bitOr, bitAnd, or-lt, and-lt}
 use lib.ListN.{length, getD, take, drop, replicate}
 use Rattle.bitmaps.specs.Words.{byWord, union, shared}
 use Rattle.bitmaps.proofs.Digits.{Words}
+use Rattle.bitmaps.proofs.Members.{words-empty}
 use Rattle.counting_bitmap.specs.Layers.{empty, layer, merged, mergedAll}
 use Rattle.faces.specs.Slots.{slots}
-use Rattle.candidates.specs.Gathering.{faceSet, facesAt, joined, unionOf, Lent, projectionAt, unionAt, unionsFrom, layersOf}
+use Rattle.candidates.specs.Gathering.{faceSet, facesAt, joined, unionOf, Lent, targetOn, unionAt, unionsFrom, layersOf}
 
 words-none : Words []
 words-none i = omega arith
@@ -28,11 +29,6 @@ words-append : (a b : List ℕ) → Words a → Words b → Words (a ++ b)
 words-append [] b h k i = k i
 words-append (x ∷ a) b h k zero = h 0
 words-append (x ∷ a) b h k (suc i) = words-append a b (λ j. h (suc j)) k i
-
-words-empty : (m : ℕ) → Words (empty m)
-words-empty zero i = words-none i
-words-empty (suc m) zero = words-none 0
-words-empty (suc m) (suc i) = words-empty m i
 
 words-join : (f : ℕ → ℕ → ℕ) → ((x y : ℕ) → x < 2 ^ 64 → y < 2 ^ 64 → f x y < 2 ^ 64) → (a b : List ℕ) → Words a → Words b → Words (byWord f a b)
 unfolding byWord
@@ -65,7 +61,7 @@ unfolding unionAt unionOf
 words-at q b h =
     let d = length (q .target) in
     let fs = facesAt (q .faces) d (q .w) b in
-    words-joined (q .w) fs (empty (q .w)) (slots (q .picks) (projectionAt q b))
+    words-joined (q .w) fs (empty (q .w)) (slots (q .picks) (targetOn q b))
     (words-take (2 * d * q .w) (drop (b * (2 * d * q .w)) (q .faces)) (words-drop (b * (2 * d * q .w)) (q .faces) h)) (words-empty (q .w))
 
 words-all : (n : ℕ) (q : Lent) (m b : ℕ) (ls : List ℕ) → Words (q .faces) → Words ls → Words (mergedAll n (q .w) ls (unionsFrom q m b))

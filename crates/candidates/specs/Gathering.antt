@@ -5,12 +5,12 @@ use mathlib.Core.Bool.{Bool, true, false}
 use mathlib.Core.List.{List, [], _∷_}
 use lib.Ieee.{Float}
 use lib.ListN.{length, take, drop}
-use Rattle.paper.specs.Choice.{pick, refuse, _and_}
-use Rattle.index_memory.specs.Memory.{basisAt}
+use Rattle.paper.specs.Choice.{refuse}
 use Rattle.bitmaps.specs.Words.{union, size}
 use Rattle.counting_bitmap.specs.Layers.{empty, merged, fallen, mergedAll, droppedAll}
 use Rattle.vector.specs.Finite.{allFinite}
 use Rattle.basis.specs.Project.{projected}
+use Rattle.basis.specs.Bases.{projectionAt, projectionsFinite}
 use Rattle.faces.specs.Slots.{slots, Facable}
 use Rattle.candidates.specs.declared.Gathered.{Gathered}
 
@@ -47,18 +47,18 @@ abbrev pub lent : List Float → List ℕ → List Float → ℕ → ℕ → Len
 lent bs fs t w picks = record { bases = bs; faces = fs; target = t; w = w; picks = picks }
 
 -- the target's projection on basis b
-unfoldable pub projectionAt : Lent → ℕ → List Float
-projectionAt q b = projected (basisAt (q .bases) (length (q .target)) b) (q .target)
+abbrev pub targetOn : Lent → ℕ → List Float
+targetOn q b = projectionAt (length (q .target)) (q .bases) (q .target) b
+
+-- whether every entry of its projections on the first n bases is finite
+abbrev pub targetFinite : Lent → ℕ → Bool
+targetFinite q n = projectionsFinite (length (q .target)) (q .bases) (q .target) n
 
 -- basis b's union
 unfoldable pub unionAt : Lent → ℕ → List ℕ
-unionAt q b = unionOf (q .picks) (q .w) (facesAt (q .faces) (length (q .target)) (q .w) b) (projectionAt q b)
+unionAt q b = unionOf (q .picks) (q .w) (facesAt (q .faces) (length (q .target)) (q .w) b) (targetOn q b)
 
--- the m bases from b on: whether every entry of every projection is finite, and the unions
-unfoldable pub finiteFrom : Lent → ℕ → ℕ → Bool
-finiteFrom q zero b = true
-finiteFrom q (suc m) b = allFinite (projectionAt q b) and finiteFrom q m (suc b)
-
+-- the unions of the m bases from b on
 unfoldable pub unionsFrom : Lent → ℕ → ℕ → List (List ℕ)
 unionsFrom q zero b = []
 unionsFrom q (suc m) b = unionAt q b ∷ unionsFrom q m (suc b)
@@ -105,6 +105,6 @@ pub record GatherArgs (n lb lf lt lw ll w : ℕ) : Type 0 where
 
 -- the same for all bases
 pub record GatherIs (n : ℕ) (q : Lent) (r : Gathered) (ls′ : List ℕ) : Type 0 where
-  pub answer : r .refusal ≡ refuse 7 (finiteFrom q n 0) 0
+  pub answer : r .refusal ≡ refuse 7 (targetFinite q n) 0
   pub layers : r .refusal ≡ 0 → ls′ ≡ layersOf n q
   pub dropped : r .refusal ≡ 0 → r .dropped ≡ droppedOf n q

@@ -5,7 +5,21 @@ ghost use Prim.Native.Nat.{_*_, _-_, _≤_};
 ghost use lib.ListN.{length};
 ghost use Rattle.counting_bitmap.specs.Layers.{Carried, merged, fallen, countsOf, empty};
 ghost use Rattle.counting_bitmap.specs.TopLayer.{topOf, partOf};
+ghost use Rattle.counting_bitmap.specs.Answers.{layersOk};
 use super::Top;
+
+// Whether the capacity is good and there are 1 to 32 layers.
+pub fn layers_ok(cap: usize, n: usize) -> bool
+    ensures { λ r. ⌜ r ≡ layersOk cap n ⌝ }
+{
+    if !paper::capacity_ok(cap) {
+        return false;
+    }
+    if n < 1 {
+        return false;
+    }
+    n <= 32
+}
 
 // One layer and the incoming set, in one pass: the layer becomes the union, and what they shared stays in the set to be carried on. The answer
 // is whether anything is.

@@ -52,10 +52,6 @@ emptyIx g = ixOf (zeros (faceWords (g .d) (g .n) (g .cap))) (zeros (setWords (g 
 
 -- ---- places
 
--- basis b: d vectors of d components
-abbrev pub basisAt : List Float → ℕ → ℕ → List Float
-basisAt bs d b = take (d * d) (drop (b * (d * d)) bs)
-
 -- the face sets stand one after the other, C bits each, basis by basis and slot by slot: the bit of id i in the set of basis b's slot
 abbrev pub faceBit : ℕ → ℕ → ℕ → ℕ → ℕ → ℕ
 faceBit d cap b slot i = (b * (2 * d) + slot) * cap + i

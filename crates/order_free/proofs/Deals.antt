@@ -27,7 +27,8 @@ use Rattle.adding.proofs.Laws.{length-stored}
 use Rattle.merging.specs.Merging.{copied, mergedIx, mergeRefusal, mergeOf}
 use Rattle.order_free.specs.Order.{Addition, Call, whats, Lent, run, Shuffle, Fresh, Distinct, Deal, one, two, dealt, built, Accepted}
 use Rattle.order_free.specs.Grown.{lastOr, taken, takenAs, markOf, Grown}
-use Rattle.order_free.proofs.Words.{length-inserted, union-inserted, union-empty, has-put, has-empty, share-none}
+use Rattle.bitmaps.proofs.Members.{has-empty}
+use Rattle.order_free.proofs.Words.{length-inserted, union-inserted, union-empty, has-put, share-none}
 use Rattle.order_free.proofs.Orders.{length-faces, ix-eq, SameLen, same-refl, same-trans, same-sym, num, num-same, put, puts, put-same, puts-same, shape-good, run-is, distinct-shuffle, puts-shuffle}
 use Rattle.order_free.proofs.Grows.{own-same, grown-puts}
 

@@ -26,7 +26,8 @@ use Rattle.adding.specs.Adding.{faceSlot, withFaces, withVector, addedIx, Shape
 use Rattle.adding.proofs.Laws.{length-stored, face-slot-low}
 use Rattle.order_free.specs.Order.{Addition, Call, whats, Lent, run}
 use Rattle.order_free.specs.Grown.{lastOr, taken, takenAs, faceAmong, takenAt, markOf, faceOf, bytesOf, Grown}
-use Rattle.order_free.proofs.Words.{has-put, has-empty, has-ext, words-empty, words-inserted}
+use Rattle.bitmaps.proofs.Members.{has-empty, same-words, words-empty}
+use Rattle.order_free.proofs.Words.{has-put, words-inserted}
 use Rattle.order_free.proofs.Orders.{ix-eq, SameLen, same-refl, same-trans, num, num-same, put, puts, put-same, puts-same, shape-good, length-faces, run-is}
 
 -- ---- lists of zeros, and lists by their parts
@@ -224,6 +225,6 @@ module _ (g : Geo) (bs : List Float) where
   grown-once good xs a b p q =
       let s = own-sized (g .d) (g .n) (g .cap) (g .mode) _ _ _ good (p .lengths) in
       let t = own-sized (g .d) (g .n) (g .cap) (g .mode) _ _ _ good (q .lengths) in
-      ix-eq (has-ext (a .faces) (b .faces) (s .faces ∙ sym (t .faces)) (p .face-words) (q .face-words) (λ k. p .faces k ∙ sym (q .faces k)))
-      (has-ext (a .marks) (b .marks) (s .marks ∙ sym (t .marks)) (p .mark-words) (q .mark-words) (λ i. p .marks i ∙ sym (q .marks i)))
+      ix-eq (same-words (a .faces) (b .faces) (s .faces ∙ sym (t .faces)) (p .face-words) (q .face-words) (λ k. p .faces k ∙ sym (q .faces k)))
+      (same-words (a .marks) (b .marks) (s .marks ∙ sym (t .marks)) (p .mark-words) (q .mark-words) (λ i. p .marks i ∙ sym (q .marks i)))
       (parts-ext (g .cap) (slotBytes (g .d) (g .mode)) (a .vecs) (b .vecs) (s .vecs) (t .vecs) (λ i h. p .vecs i h ∙ sym (q .vecs i h)))

@@ -1,4 +1,4 @@
--- Sets of ids as words: ids put in, in any order; unions; equal ids make equal words. Assumes nothing.
+-- Sets of ids as words: ids put in, in any order, and unions. Assumes nothing.
 use Prim.Native.Nat.{ℕ, zero, suc, _+_, _*_, _/_, _%_, _^_, _≤_, _<_, min, max}
 use mathlib.Core.Path.{_≡_, refl, sym, ap, ap₂, _∙_, subst}
 use mathlib.Core.List.{List, [], _∷_, _++_}
@@ -6,20 +6,20 @@ use mathlib.Core.Bool.{Bool, true, false}
 use mathlib.Core.Logic.{⊎-elim}
 use native.Mathlib.Omega.{arith}
 use native.Mathlib.Decide.{ℕ-discrete}
-use native.Mathlib.Nat.{mod-lt, zero-div}
+use native.Mathlib.Nat.{mod-lt}
 use borrow.Author.Tests.{eq-eqb, ne-eqb}
 use lib.Arith.{bin-ind, digits-div, digits-mod}
 use lib.Bits.{bitAnd, bitOr, or-step, or-comm, or-zero-r, and-lt, or-lt}
 use lib.Dec.{eqb}
-use lib.Pow.{pow-lt, pow-pos}
+use lib.Pow.{pow-lt}
 use lib.ListN.{length, getD, set, replicate, length-set, length-replicate}
 use lib.Seq.{getD-set-same, getD-set-other}
 use Rattle.paper.specs.Choice.{pick}
 use Rattle.bitmaps.specs.Words.{digit, has, holds, byWord, union, shared, inserted, empty, size, isEmpty, sumTo}
 use Rattle.bitmaps.proofs.Zip.{byWord-length}
-use Rattle.bitmaps.proofs.Digits.{Words, digit-ext, byWord-at, has-shared}
+use Rattle.bitmaps.proofs.Digits.{Words, byWord-at, has-shared}
 use Rattle.bitmaps.proofs.Rising.{has-inserted, has-kept, le-or-lt}
-use Rattle.bitmaps.proofs.Size.{has-head, has-tail, size-has, sum-ext}
+use Rattle.bitmaps.proofs.Size.{size-has, sum-ext}
 
 -- ---- or
 
@@ -89,17 +89,6 @@ union-empty (x ∷ a) (suc l) = ap₂ (λ (y : ℕ) (r : List ℕ). y ∷ r) (or
 
 -- ---- membership
 
-getD-empty : (n k : ℕ) → getD (empty n) k 0 ≡ 0
-getD-empty zero k = refl
-getD-empty (suc n) zero = refl
-getD-empty (suc n) (suc k) = getD-empty n k
-
-pub has-empty : (n i : ℕ) → has (empty n) i ≡ 0
-has-empty n i = rw (getD-empty n (i / 64)) (zero-digit (i % 64))
-  where
-    zero-digit : (k : ℕ) → 0 / 2 ^ k % 2 ≡ 0
-    zero-digit k = rw zero-div
-
 -- one id more: it is in, and the others as before
 pub has-put : (s : List ℕ) (i j : ℕ) → i < length s * 64 → has (inserted s i) j ≡ pick (eqb i j) 1 (has s j)
 has-put s i j h = go (ℕ-discrete i j)
@@ -109,9 +98,6 @@ has-put s i j h = go (ℕ-discrete i j)
     go (no ne) = has-kept s i j h (λ e. ne (sym e)) ∙ sym (ap (λ (b : Bool). pick b 1 (has s j)) (ne-eqb i j ne))
 
 -- ---- words
-
-pub words-empty : (n : ℕ) → Words (empty n)
-words-empty n i = rw (getD-empty n i) (pow-pos 64)
 
 pub words-inserted : (s : List ℕ) (i : ℕ) → i < length s * 64 → Words s → Words (inserted s i)
 words-inserted s i h w q = go (ℕ-discrete q (i / 64))
@@ -125,17 +111,6 @@ words-inserted s i h w q = go (ℕ-discrete q (i / 64))
         (subst (λ (x : ℕ). x < 2 ^ 64) (sym (getD-set-same s (i / 64) (bitOr (getD s (i / 64) 0) (2 ^ (i % 64))) 0 l))
         (or-lt 64 (getD s (i / 64) 0) (2 ^ (i % 64)) (w (i / 64)) (pow-lt (mod-lt i (omega arith)))))
     go (no ne) = subst (λ (x : ℕ). x < 2 ^ 64) (sym (getD-set-other s (i / 64) q (bitOr (getD s (i / 64) 0) (2 ^ (i % 64))) 0 ne)) (w q)
-
--- two sets of one length with the same ids are the same words
-pub has-ext : (a b : List ℕ) → length a ≡ length b → Words a → Words b → ((i : ℕ) → has a i ≡ has b i) → a ≡ b
-has-ext [] [] e wa wb h = refl
-has-ext [] (y ∷ b) e wa wb h = let no : ⊥ = omega arith in absurd no
-has-ext (x ∷ a) [] e wa wb h = let no : ⊥ = omega arith in absurd no
-has-ext (x ∷ a) (y ∷ b) e wa wb h =
-    let e' : length a ≡ length b = omega arith in
-    ap₂ (λ (z : ℕ) (r : List ℕ). z ∷ r)
-    (digit-ext 64 x y (wa 0) (wb 0) (λ k l. sym (has-head x a k l) ∙ h k ∙ has-head y b k l))
-    (has-ext a b e' (λ i. wa (suc i)) (λ i. wb (suc i)) (λ i. sym (has-tail x a i) ∙ h (64 + i) ∙ has-tail y b i))
 
 -- ---- two sets that share no id
 

@@ -14,7 +14,6 @@ use result::ResultSet;
 use result::SearchResult;
 ghost use mathlib.Core.Path.{_≡_};
 ghost use Prim.Native.Nat.{_<_};
-ghost use lib.Ieee.{binary32, ofBits, toBits};
 ghost use Rattle.result.specs.Sets.{feedOf};
 ghost use Rattle.result.specs.Recalls.{toldBy};
 
@@ -40,26 +39,6 @@ fn word(input: &[u8], i: usize) -> u32
     value
 }
 
-// The score of a bit pattern.
-fn score(n: u32) -> f32
-    ensures { λ r. ⌜ r ≡ ofBits binary32 n ⌝ }
-{
-    if 2139095040 < n % 2147483648 {
-        return 0.0f32 / 0.0f32;
-    }
-    f32::from_bits(n)
-}
-
-// A score's bits; the logic knows one NaN, and it is printed as the quiet one.
-fn bits(x: f32) -> u32
-    ensures { λ r. ⌜ r ≡ toBits binary32 x ⌝ }
-{
-    if x != x {
-        return 0x7fc00000;
-    }
-    f32::to_bits(x)
-}
-
 fn space() {
     io::write_all(STDOUT_FILENO, b" ");
 }
@@ -76,7 +55,7 @@ fn show_entry(e: SearchResult) {
     space();
     number(e.id as u64);
     space();
-    io::print_hex(STDOUT_FILENO, bits(e.similarity) as u64, 8);
+    io::print_hex(STDOUT_FILENO, sqrt::bits_of(e.similarity) as u64, 8);
 }
 
 // The count, the length and the entries.
@@ -118,7 +97,7 @@ fn grown(input: &[u8], at: usize, k: u32, m: u32, in_place: bool) -> Fed
         }
         let from = at + 2 * (j as usize);
         let id = word(input, from);
-        let similarity = score(word(input, from + 1));
+        let similarity = sqrt::of_bits(word(input, from + 1));
         let set = cur.set;
         let next = fed(set, id, similarity, in_place);
         cur = next;
@@ -178,7 +157,7 @@ fn made_up(input: &[u8], at: usize) -> ResultSet
     let place = word(input, at + 3) as usize;
     if place < 256 {
         set.ids[place] = word(input, at + 4);
-        set.sims[place] = score(word(input, at + 5));
+        set.sims[place] = sqrt::of_bits(word(input, at + 5));
     }
     set
 }
@@ -217,7 +196,7 @@ fn refusing(input: &[u8], at: usize) -> usize
 {
     let set = made_up(input, at);
     let id = word(input, at + 6);
-    let similarity = score(word(input, at + 7));
+    let similarity = sqrt::of_bits(word(input, at + 7));
     let f = set.feed(id, similarity);
     number(f.refusal as u64);
     space();

@@ -24,7 +24,7 @@ use Rattle.vector.specs.Finite.{allFinite}
 use Rattle.faces.specs.Slots.{picksOf}
 use Rattle.backend_memory.specs.Ranking.{rankOf}
 use Rattle.backend_memory.proofs.Cases.{bytes-by}
-use Rattle.candidates.specs.Gathering.{Lent, lent, finiteFrom, GatherIs}
+use Rattle.candidates.specs.Gathering.{Lent, lent, targetFinite, GatherIs}
 use Rattle.candidates.specs.declared.Gathered.{Gathered}
 use Rattle.candidates.proofs.Bases.{was-finite, was-not}
 use Rattle.vector_store.specs.Search.{refused, shown, topRankOf, foundOf, Work, Searched, searched, cleared, workOk, shapeRefusal, searchRefusal, searchOf, FindArgs}
@@ -65,11 +65,11 @@ module _ (n w sk i : ℕ) (ls : List ℕ) (e : topOf n w ls sk ≡ Layer i) (l :
 module _ (n mode k sk : ℕ) (q : Lent) (ms vs ls : List ℕ) (g : Gathered) (r : Nearest) (o : GatherIs n q g ls) where
   pub found-refused : (g .refusal ≡ 0 → ⊥) → r ≡ refused 7 → r ≡ foundOf n mode k sk q ms vs
   unfolding foundOf
-  found-refused h e = rw (was-not (finiteFrom q n 0) (g .refusal) (o .answer) h) e
+  found-refused h e = rw (was-not (targetFinite q n) (g .refusal) (o .answer) h) e
 
   pub found-done : g .refusal ≡ 0 → r ≡ topRankOf n mode k sk (q .w) ls ms vs (q .target) (g .dropped) → r ≡ foundOf n mode k sk q ms vs
   unfolding foundOf
-  found-done h e = rw (was-finite (finiteFrom q n 0) (g .refusal) (o .answer) h, ← o .layers h, ← o .dropped h) e
+  found-done h e = rw (was-finite (targetFinite q n) (g .refusal) (o .answer) h, ← o .layers h, ← o .dropped h) e
 
 -- ---- the public call
 

@@ -28,7 +28,7 @@ use Rattle.faces.specs.Slots.{picksOf}
 use Rattle.backend_memory.specs.Ranking.{similarityOf, rankOf}
 use Rattle.backend_memory.proofs.Counts.{rank-checked, rank-sound}
 use Rattle.backend_memory.proofs.Listed.{Each, Listed, rank-listed}
-use Rattle.candidates.specs.Gathering.{Lent, lent, finiteFrom, layersOf, droppedOf}
+use Rattle.candidates.specs.Gathering.{Lent, lent, targetFinite, layersOf, droppedOf}
 use Rattle.candidates.proofs.Laws.{search-drops-none}
 use Rattle.candidates.proofs.Words.{layer-words}
 use Rattle.vector_store.specs.Search.{refused, shown, rankedBy, topRankOf, foundOf, Work, Searched, searched, cleared, shapeRefusal, searchRefusal, searchOf}
@@ -38,7 +38,7 @@ use Rattle.vector_store.specs.declared.Nearest.{Nearest}
 
 -- every projection was finite, layer `at` was chosen, and its ids were ranked
 pub record Accepted (n mode k sk : ℕ) (q : Lent) (ms vs : List ℕ) (r : Nearest) : Type 0 where
-  pub finite : finiteFrom q n 0 ≡ true
+  pub finite : targetFinite q n ≡ true
   pub at : ℕ
   pub chosen : topOf n (q .w) (layersOf n q) sk ≡ Layer at
   pub good : rankOf mode k (layer (q .w) (layersOf n q) at) ms vs (q .target) .refusal ≡ 0
@@ -46,7 +46,7 @@ pub record Accepted (n mode k sk : ℕ) (q : Lent) (ms vs : List ℕ) (r : Neare
   pub dropped : r .dropped ≡ 0
 
 module _ (n mode k sk : ℕ) (q : Lent) (ms vs : List ℕ) where
-  from-rank : finiteFrom q n 0 ≡ true → (i : ℕ) → topOf n (q .w) (layersOf n q) sk ≡ Layer i → (b : Bool) → eqb (rankOf mode k (layer (q .w) (layersOf n q) i) ms vs (q .target) .refusal) 0 ≡ b
+  from-rank : targetFinite q n ≡ true → (i : ℕ) → topOf n (q .w) (layersOf n q) sk ≡ Layer i → (b : Bool) → eqb (rankOf mode k (layer (q .w) (layersOf n q) i) ms vs (q .target) .refusal) 0 ≡ b
       → (r : Nearest) → r ≡ pick b (record { refusal = 0; set = rankOf mode k (layer (q .w) (layersOf n q) i) ms vs (q .target) .set; dropped = droppedOf n q }) (refused (rankOf mode k (layer (q .w) (layersOf n q) i) ms vs (q .target) .refusal))
       → r .refusal ≡ 0 → Accepted n mode k sk q ms vs r
   from-rank f i h true t r p e =
@@ -60,7 +60,7 @@ module _ (n mode k sk : ℕ) (q : Lent) (ms vs : List ℕ) where
       }
   from-rank f i h false t r p e = absurd (eqb-false (rankOf mode k (layer (q .w) (layersOf n q) i) ms vs (q .target) .refusal) 0 t (ap (λ (x : Nearest). x .refusal) (sym p) ∙ e))
 
-  by-cases : (b : Bool) (tp : Top) → finiteFrom q n 0 ≡ b → topOf n (q .w) (layersOf n q) sk ≡ tp → (r : Nearest)
+  by-cases : (b : Bool) (tp : Top) → targetFinite q n ≡ b → topOf n (q .w) (layersOf n q) sk ≡ tp → (r : Nearest)
       → r ≡ pick b (rankedBy mode k (q .w) (layersOf n q) ms vs (q .target) (droppedOf n q) tp) (refused 7) → r .refusal ≡ 0 → Accepted n mode k sk q ms vs r
   by-cases true (Layer i) f h r p e = from-rank f i h (eqb (rankOf mode k (layer (q .w) (layersOf n q) i) ms vs (q .target) .refusal) 0) refl r p e
   by-cases true Nothing f h r p e = absurd (omega (arith, ap (λ (x : Nearest). x .refusal) p))
@@ -68,7 +68,7 @@ module _ (n mode k sk : ℕ) (q : Lent) (ms vs : List ℕ) where
 
   pub found-accepted : foundOf n mode k sk q ms vs .refusal ≡ 0 → Accepted n mode k sk q ms vs (foundOf n mode k sk q ms vs)
   unfolding foundOf topRankOf
-  found-accepted e = by-cases (finiteFrom q n 0) (topOf n (q .w) (layersOf n q) sk) refl refl _ refl e
+  found-accepted e = by-cases (targetFinite q n) (topOf n (q .w) (layersOf n q) sk) refl refl _ refl e
 
   -- what follows for the answer
   module _ (r : Nearest) (a : Accepted n mode k sk q ms vs r) where
@@ -115,7 +115,7 @@ module _ (n mode k sk : ℕ) (q : Lent) (ms vs : List ℕ) (h : k ≤ 256) where
 
   found-sound : Sound (foundOf n mode k sk q ms vs .set)
   unfolding foundOf topRankOf
-  found-sound = by (finiteFrom q n 0) (topOf n (q .w) (layersOf n q) sk)
+  found-sound = by (targetFinite q n) (topOf n (q .w) (layersOf n q) sk)
     where
       by : (b : Bool) (tp : Top) → Sound (pick b (rankedBy mode k (q .w) (layersOf n q) ms vs (q .target) (droppedOf n q) tp) (refused 7) .set)
       by true (Layer i) =

@@ -19,7 +19,7 @@ use Rattle.result.specs.declared.Fed.{Fed}
 use Rattle.vector.specs.Finite.{allFinite}
 use Rattle.faces.specs.Slots.{picksOf}
 use Rattle.backend_memory.specs.Ranking.{rankOf}
-use Rattle.candidates.specs.Gathering.{Lent, lent, finiteFrom, layersOf, droppedOf}
+use Rattle.candidates.specs.Gathering.{Lent, lent, targetFinite, layersOf, droppedOf}
 use Rattle.vector_store.specs.declared.Nearest.{Nearest}
 
 -- ---- the answer
@@ -44,7 +44,7 @@ topRankOf n mode k sk w ls ms vs t dropped = rankedBy mode k w ls ms vs t droppe
 -- 7 if an entry of any projection is not finite, else what is chosen of the layers that the bases' unions make
 unfoldable pub foundOf : ℕ → ℕ → ℕ → ℕ → Lent → List ℕ → List ℕ → Nearest
 foundOf n mode k sk q ms vs =
-    pick (finiteFrom q n 0)
+    pick (targetFinite q n)
     (topRankOf n mode k sk (q .w) (layersOf n q) ms vs (q .target) (droppedOf n q))
     (refused 7)
 

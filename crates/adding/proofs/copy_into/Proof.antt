@@ -5,7 +5,8 @@ use mathlib.Core.List.{_++_}
 use native.Mathlib.Omega.{arith}
 use borrow.Author.Needs.{needs}
 use lib.ListN.{length, take, drop, length-set}
-use Rattle.adding.proofs.Turns.{copy-more, copy-all}
+use Rattle.paper.proofs.Copies.{copy-more}
+use Rattle.adding.proofs.Turns.{copy-all}
 use Rattle.adding.proofs.copy_into.Statement.{statement}
 use Rattle.adding.proofs.copy_into.Tie as tie
 
@@ -42,8 +43,8 @@ loop-again c =
     let a = c .before .before .before .args in
     let i : ℕ = c .before .before .loop .i in
     let h : i < length (a .v .now) = omega arith in
-    let k : length (a .work .now) ≡ length (a .v .now) = c .before .before .before .pre in
-    (omega arith, simp length-set (v .1), rw (v .2) (copy-more _ _ _ _ k h))
+    let k : i < length (a .work .now) = omega (arith, c .before .before .before .pre) in
+    (omega arith, simp length-set (v .1), rw (v .2) (copy-more _ _ _ _ h k))
 
 same-length : tie.Need-same-length Inv-loop μ-loop
 same-length c = omega (arith, c .before .before .pre)

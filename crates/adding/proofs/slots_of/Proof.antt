@@ -10,8 +10,10 @@ use lib.ListN.{length, getD, length-set}
 use Rattle.index_memory.proofs.Places.{part-end, part-long}
 use Rattle.vector.specs.Finite.{allFinite}
 use Rattle.faces.specs.Slots.{slotOf}
-use Rattle.adding.specs.Adding.{projectionAt, faceSlot, projectionsFinite}
-use Rattle.adding.proofs.Turns.{projection-here, next-part, finite-more, finite-no, slot-more}
+use Rattle.basis.specs.Bases.{projectionAt, projectionsFinite}
+use Rattle.adding.specs.Adding.{faceSlot}
+use Rattle.basis.proofs.Bases.{finite-more, finite-no}
+use Rattle.adding.proofs.Turns.{projection-here, next-part, slot-more}
 use Rattle.adding.proofs.Cases.{slots-refused, slots-found}
 use Rattle.adding.proofs.slots_of.Statement.{statement}
 use Rattle.adding.proofs.slots_of.Tie as tie

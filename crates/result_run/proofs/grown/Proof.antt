@@ -36,8 +36,8 @@ add-word c = search needs
 word-requires-2 : tie.Need-word-requires-2 Inv-loop μ-loop
 word-requires-2 c κs = search needs
 
-score-requires : tie.Need-score-requires Inv-loop μ-loop
-score-requires c κs = search needs
+of-bits-requires : tie.Need-of-bits-requires Inv-loop μ-loop
+of-bits-requires c κs = search needs
 
 fed-requires : tie.Need-fed-requires Inv-loop μ-loop
 fed-requires c κs = search needs
@@ -69,7 +69,7 @@ grown-spec =
     word-requires
     add-word
     word-requires-2
-    score-requires
+    of-bits-requires
     fed-requires
     add-j
     loop-less

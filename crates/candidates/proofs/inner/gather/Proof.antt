@@ -4,11 +4,14 @@ use native.Mathlib.Omega.{arith}
 use native.Mathlib.Nat.{mul-le-mul, le-refl}
 use Prim.Native.Nat.{_≤_, _-_, _*_, _+_}
 use mathlib.Core.Path.{_≡_, refl, _∙_, ap}
+use mathlib.Core.Bool.{true}
 use lib.ListN.{length}
 use Rattle.index_memory.proofs.Places.{part-end, part-long}
 use Rattle.counting_bitmap.specs.Layers.{empty, mergedAll, droppedAll}
-use Rattle.candidates.specs.Gathering.{Lent, lent, finiteFrom, unionsFrom, layersOf, droppedOf}
-use Rattle.candidates.proofs.Bases.{times-by, was-finite, was-not, one-answer, one-layers, one-dropped, finite-more, finite-stops, merged-more, dropped-more, gather-stopped, gather-ended}
+use Rattle.basis.specs.Bases.{projectionsFinite}
+use Rattle.basis.proofs.Bases.{finite-none, finite-more, finite-no}
+use Rattle.candidates.specs.Gathering.{Lent, lent, unionsFrom, layersOf, droppedOf}
+use Rattle.candidates.proofs.Bases.{times-by, was-finite, was-not, one-answer, one-layers, one-dropped, merged-more, dropped-more, gather-stopped, gather-ended}
 use Rattle.candidates.proofs.inner.gather.Statement.{statement}
 use Rattle.candidates.proofs.inner.gather.Tie as tie
 
@@ -16,7 +19,7 @@ abbrev Inv-loop : tie.InvT-loop
 Inv-loop bases faces target work₀ layers₀ set₀ n picks square block total₀ b₀ p₀ f₀ work layers set total b p f =
     (b ≤ n) × (p ≡ b * (length target * length target)) × (f ≡ b * (2 * length target * length set₀))
     × (length work ≡ length work₀) × (length layers ≡ n * length set₀) × (length set ≡ length set₀) × (total ≤ 65536 * b)
-    × (finiteFrom (lent bases faces target (length set₀) picks) (n - b) b ≡ finiteFrom (lent bases faces target (length set₀) picks) n 0)
+    × (projectionsFinite (length target) bases target b ≡ true)
     × (mergedAll n (length set₀) layers (unionsFrom (lent bases faces target (length set₀) picks) (n - b) b) ≡ layersOf n (lent bases faces target (length set₀) picks))
     × (total + droppedAll n (length set₀) layers (unionsFrom (lent bases faces target (length set₀) picks) (n - b) b) ≡ droppedOf n (lent bases faces target (length set₀) picks))
 
@@ -41,7 +44,7 @@ loop-holds c =
     let a = c .before .before .before .before .before .before .before .before .before .before .args in
     let z : a .n - 0 ≡ a .n = omega arith in
     let e : c .before .before .clear .last .0 ≡ empty (a .n * length (a .set .now)) = c .before .before .clear .ensures ∙ ap empty (c .before .before .before .before .before .before .before .before .before .before .pre .layers) in
-    (search needs, omega arith, omega arith, refl, c .before .before .clear .kept .0 ∙ c .before .before .before .before .before .before .before .before .before .before .pre .layers, refl, search needs, rw z, rw (z, e), rw (z, e) (omega arith))
+    (search needs, omega arith, omega arith, refl, c .before .before .clear .kept .0 ∙ c .before .before .before .before .before .before .before .before .before .before .pre .layers, refl, search needs, finite-none _ _ _, rw (z, e), rw (z, e) (omega arith))
 
 -- the next basis is within the bases, and its face sets within the face sets
 basis-end : (c : tie.In-loop Inv-loop μ-loop) → c .before .loop .p + length (c .before .before .before .before .before .before .before .before .before .before .before .before .args .target .now) * length (c .before .before .before .before .before .before .before .before .before .before .before .before .args .target .now) ≤ length (c .before .before .before .before .before .before .before .before .before .before .before .before .args .bases .now)
@@ -112,7 +115,7 @@ returns c =
     let g = c .before .before .before .before .before .before .before .before .gather-basis in
     let q : Lent = lent (a .bases .now) (a .faces .now) (a .target .now) (length (a .set .now)) (a .picks) in
     let ans = one-answer q (a .n) (l .b) (l .p) (l .f) (length (l .set)) (l .layers) (g .last .1 .1 .1 .1 .0) (g .result) (l .inv .1) (l .inv .2) (l .inv .5) (g .ensures) in
-    gather-stopped q (a .n) (l .b) (g .last .1 .1 .1 .1 .0) (finite-stops q (a .n) (l .b) (c .before .before .before .before .before .before .before .before .before .before .before .before .before .before .loop-test .taken) (was-not _ _ ans (c .if1 .taken))) (l .inv .7)
+    gather-stopped q (a .n) (g .last .1 .1 .1 .1 .0) (finite-no _ _ _ (a .n) (l .b) (c .before .before .before .before .before .before .before .before .before .before .before .before .before .before .loop-test .taken) (was-not _ _ ans (c .if1 .taken)))
 
 add-total : tie.Need-add-total Inv-loop μ-loop
 add-total c = omega (arith, c .before .before .before .before .before .before .before .before .before .gather-basis .ensures .few, c .before .before .before .before .before .before .before .before .before .before .before .before .before .before .before .before .loop .inv .6, c .before .before .before .before .before .before .before .before .before .before .before .before .before .before .before .before .loop .inv .0, c .before .before .before .before .before .before .before .before .before .before .before .before .before .before .before .loop-test .taken, c .before .before .before .before .before .before .before .before .before .before .before .before .before .before .before .before .before .before .before .before .before .before .before .before .before .before .before .pre .n-high)
@@ -140,7 +143,7 @@ loop-again c =
     let ans = one-answer q (a .n) (l .b) (l .p) (l .f) (length (l .set)) (l .layers) ls′ (g .result) (l .inv .1) (l .inv .2) (l .inv .5) (g .ensures) in
     let lay = one-layers q (a .n) (l .b) (l .p) (l .f) (length (l .set)) (l .layers) ls′ (g .result) (l .inv .1) (l .inv .2) (l .inv .5) (g .ensures) ok in
     let drp = one-dropped q (a .n) (l .b) (l .p) (l .f) (length (l .set)) (l .layers) ls′ (g .result) (l .inv .1) (l .inv .2) (l .inv .5) (g .ensures) ok in
-    let fin = finite-more q (a .n) (l .b) (c .before .before .before .before .before .before .before .before .before .before .before .before .before .before .before .loop-test .taken) (was-finite _ _ ans ok) in
+    let fin = finite-more _ _ _ (l .b) (l .inv .7) (was-finite _ _ ans ok) in
     let mm = merged-more q (a .n) (l .b) (c .before .before .before .before .before .before .before .before .before .before .before .before .before .before .before .loop-test .taken) (l .layers) ls′ lay in
     let dm = dropped-more q (a .n) (l .b) (c .before .before .before .before .before .before .before .before .before .before .before .before .before .before .before .loop-test .taken) (l .layers) ls′ lay in (
       omega (arith, c .before .before .before .before .before .before .before .before .before .before .before .before .before .before .before .loop-test .taken),
@@ -150,7 +153,7 @@ loop-again c =
       g .kept .1 .1 .1 .1 .0 ∙ l .inv .4,
       g .kept .1 .1 .1 .1 .1 .0 ∙ l .inv .5,
       omega (arith, g .ensures .few, l .inv .6),
-      fin ∙ l .inv .7,
+      fin,
       mm ∙ l .inv .8,
       omega (arith, drp, dm, l .inv .9),
     )
@@ -168,7 +171,7 @@ returns-2 : tie.Need-returns-2 Inv-loop μ-loop
 returns-2 c =
     let a = c .before .before .before .before .before .before .before .before .before .before .before .before .args in
     let l = c .before .loop in
-    gather-ended (lent (a .bases .now) (a .faces .now) (a .target .now) (length (a .set .now)) (a .picks)) (a .n) (l .b) (l .layers) (l .total) (c .loop-test .left) (l .inv .7) (l .inv .8) (l .inv .9)
+    gather-ended (lent (a .bases .now) (a .faces .now) (a .target .now) (length (a .set .now)) (a .picks)) (a .n) (l .b) (l .layers) (l .total) (c .loop-test .left) (l .inv .0) (l .inv .7) (l .inv .8) (l .inv .9)
 
 pub gather-spec : {M : Type 1} → statement M
 gather-spec =

@@ -1,5 +1,0 @@
--- Laws that belong to no one function.
-pub mod Places
-pub mod Singles
-pub mod Feeds
-pub mod Cases

@@ -1,3 +1,0 @@
-pub mod Single
-pub mod Lists
-pub mod Layers

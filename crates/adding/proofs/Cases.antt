@@ -1,20 +1,20 @@
 -- The ways out of an addition, on plain values. Assumes nothing.
-use Prim.Native.Nat.{ℕ, zero, suc, _+_, _*_, _≤_, _<_}
-use mathlib.Core.Path.{_≡_, refl, sym, ap, ap₂, _∙_, subst}
-use mathlib.Core.List.{List, [], _∷_, _++_}
+use Prim.Native.Nat.{ℕ, _≤_, _<_}
+use mathlib.Core.Path.{_≡_, refl, sym, _∙_}
+use mathlib.Core.List.{List}
 use mathlib.Core.Bool.{Bool, true, false}
 use native.Mathlib.Omega.{arith}
-use lib.Dec.{leb, ltb, eqb}
+use lib.Dec.{ltb, eqb}
 use lib.Ieee.{Float}
 use lib.ListN.{length, getD}
-use borrow.Author.Tests.{eq-eqb, ne-eqb, le-leb, lt-leb}
-use Rattle.paper.specs.Choice.{_and_, pick, refuse}
-use Rattle.paper.specs.Geometry.{Geo, geo, geoOk}
-use Rattle.index_memory.specs.Memory.{Ix, ixOf, floatZeros}
+use borrow.Author.Tests.{eq-eqb, ne-eqb, le-leb}
+use Rattle.paper.specs.Choice.{pick, refuse}
+use Rattle.paper.specs.Geometry.{Geo, geoOk}
+use Rattle.index_memory.specs.Memory.{Ix, floatZeros}
 use Rattle.vector.specs.Finite.{allFinite}
 use Rattle.vector.specs.Norm.{normNumber}
 use Rattle.basis.specs.Bases.{projectionsFinite}
-use Rattle.adding.specs.Adding.{faceSlot, addedIx, writtenIx, lengthsOk, shapeRefusal, lateRefusal, addRefusal, Added, added, workAfter, addOf, Shaped, SlotsAre}
+use Rattle.adding.specs.Adding.{faceSlot, addedIx, writtenIx, lengthsOk, shapeRefusal, lateRefusal, addRefusal, added, workAfter, addOf, SlotsAre}
 use Rattle.adding.proofs.Shape.{shape-high}
 use Rattle.adding.proofs.Turns.{with-same}
 

@@ -7,9 +7,9 @@ use native.Mathlib.Omega.{arith}
 use native.Mathlib.Nat.{mul-comm}
 use borrow.Author.Tests.{eqb-true, eqb-false, eq-eqb}
 use lib.Dec.{T, eqb}
-use lib.Ieee.{Float, binary32, nan, fits}
+use lib.Ieee.{Float, binary32, fits}
 use lib.Ieee.Fits.{nan-fits, div-fits}
-use lib.ListN.{length, getD, take, drop}
+use lib.ListN.{length, take, drop}
 use lib.Seq.{sets, getD-take, getD-drop}
 use Rattle.paper.specs.Choice.{pick, refuse}
 use Rattle.paper.specs.Geometry.{Geo, compSize, setWords}
@@ -17,7 +17,7 @@ use Rattle.index_memory.specs.Memory.{Ix, faceBit, slotBytes, slotAt}
 use Rattle.index_memory.proofs.Places.{place, face-bit-word, face-bit-digit}
 use Rattle.bitmaps.specs.Words.{has}
 use Rattle.vector.specs.Finite.{allFinite}
-use Rattle.vector.specs.Norm.{normNumber, normOf, normalized, dividedBy}
+use Rattle.vector.specs.Norm.{normNumber, normOf, normalized}
 use Rattle.vector.proofs.Laws.{length-normalized}
 use Rattle.basis.proofs.Laws.{length-projected}
 use Rattle.faces.specs.Slots.{slotOf}

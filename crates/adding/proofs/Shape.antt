@@ -1,11 +1,11 @@
 -- What the first three tests of an addition give. Assumes nothing.
-use Prim.Native.Nat.{ℕ, _+_, _*_, _/_, _%_, _<_, _≤_}
-use mathlib.Core.Path.{_≡_, refl, sym, ap, subst, _∙_}
+use Prim.Native.Nat.{ℕ, _≤_}
+use mathlib.Core.Path.{_≡_, sym, _∙_}
 use mathlib.Core.Bool.{Bool, true, false}
 use native.Mathlib.Omega.{arith}
 use borrow.Author.Tests.{ltb-true, eqb-true}
-use lib.Dec.{leb, ltb, eqb}
-use Rattle.paper.specs.Choice.{_and_, pick, refuse}
+use lib.Dec.{ltb, eqb}
+use Rattle.paper.specs.Choice.{pick, refuse}
 use Rattle.paper.specs.Geometry.{Geo, geoOk}
 use Rattle.paper.proofs.Choice.{and-l, and-r, refuse-ok, refuse-rest}
 use Rattle.paper.proofs.Geometry.{geo-facts}

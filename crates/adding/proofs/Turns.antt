@@ -2,26 +2,23 @@
 use Prim.Native.Nat.{ℕ, zero, suc, _+_, _-_, _*_, _<_, _≤_}
 use mathlib.Core.Path.{_≡_, refl, sym, ap, ap₂, _∙_}
 use mathlib.Core.List.{List, [], _∷_, _++_, append-nil, append-assoc}
-use mathlib.Core.Bool.{Bool, true, false}
 use native.Mathlib.Omega.{arith}
 use native.Mathlib.Decide.{ℕ-discrete}
 use native.Mathlib.Numerals.{add-one}
-use native.Mathlib.Nat.{not-suc-le-zero, mul-suc, mul-comm, mul-le-mul-left}
+use native.Mathlib.Nat.{mul-suc, mul-comm, mul-le-mul-left}
 use lib.Ieee.{Float}
 use lib.ListN.{length, take, drop, set, getD, drop-of-length-le}
 use lib.Seq.{sets, take-all, take-suc, length-take-le, getD-set-same, getD-set-other}
-use Rattle.paper.specs.Choice.{_and_}
 use Rattle.paper.specs.Geometry.{compSize}
 use Rattle.index_memory.specs.Memory.{faceBit}
 use Rattle.index_memory.proofs.Places.{part-is}
 use Rattle.bitmaps.specs.Words.{inserted}
-use Rattle.vector.specs.Finite.{allFinite}
 use Rattle.basis.specs.Project.{projected}
 use Rattle.quantization.specs.Stored.{compBytes, lowerBytes}
 use Rattle.quantization.proofs.Sets.{sets-append}
 use Rattle.quantization.proofs.Stored.{length-lower}
-use Rattle.basis.specs.Bases.{projectionAt, projectionsFinite}
-use Rattle.adding.specs.Adding.{faceSlot, withFaces}
+use Rattle.basis.specs.Bases.{projectionAt}
+use Rattle.adding.specs.Adding.{withFaces}
 
 -- ---- copying
 

@@ -1,15 +1,15 @@
 -- What adding a vector does to an index (01, "Store and search"), and what it refuses, in the order of 01's table.
-use Prim.Native.Nat.{ℕ, zero, suc, _+_, _*_, _/_, _%_, _<_, _≤_}
+use Prim.Native.Nat.{ℕ, zero, suc, _*_, _%_, _<_, _≤_}
 use mathlib.Core.Path.{_≡_}
-use mathlib.Core.List.{List, []}
-use mathlib.Core.Bool.{Bool, true, false}
+use mathlib.Core.List.{List}
+use mathlib.Core.Bool.{Bool}
 use lib.Dec.{leb, ltb, eqb}
 use lib.Ieee.{Float}
 use lib.ListN.{length, getD}
 use lib.Seq.{sets}
 use Rattle.paper.specs.Choice.{_and_, pick, refuse}
-use Rattle.paper.specs.Geometry.{Geo, geo, geoOk, GeoFacts, compSize, setWords, basesLen, faceWords, vectorBytes}
-use Rattle.index_memory.specs.Memory.{Ix, ixOf, ownOk, basesOk, faceBit, slotBytes, slotAt, floatZeros}
+use Rattle.paper.specs.Geometry.{Geo, geoOk, GeoFacts, setWords, basesLen, faceWords, vectorBytes}
+use Rattle.index_memory.specs.Memory.{Ix, ixOf, ownOk, basesOk, faceBit, slotAt, floatZeros}
 use Rattle.bitmaps.specs.Words.{inserted}
 use Rattle.vector.specs.Finite.{allFinite}
 use Rattle.vector.specs.Norm.{normNumber, normalized}

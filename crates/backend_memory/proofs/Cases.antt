@@ -1,5 +1,5 @@
 -- The cases of a scan, as the call meets them. Assumes nothing.
-use Prim.Native.Nat.{ℕ, _*_, _≤_}
+use Prim.Native.Nat.{ℕ, _*_}
 use native.Mathlib.Omega.{arith}
 use mathlib.Core.Path.{_≡_, refl, sym, ap, _∙_}
 use mathlib.Core.Bool.{Bool, true, false}
@@ -8,7 +8,7 @@ use lib.Dec.{leb, eqb}
 use lib.Ieee.{Float}
 use lib.ListN.{length}
 use borrow.Author.Tests.{ne-eqb, leb-true, eqb-true, eqb-false}
-use Rattle.paper.specs.Geometry.{Geo, geoOk, setWords, vectorBytes}
+use Rattle.paper.specs.Geometry.{Geo, geoOk, vectorBytes}
 use Rattle.paper.proofs.Choice.{refuse-ok, refuse-rest}
 use Rattle.paper.proofs.Geometry.{geo-facts}
 use Rattle.index_memory.specs.Memory.{storeOk, slotBytes}

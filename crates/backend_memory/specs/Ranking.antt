@@ -1,5 +1,5 @@
 -- Ranking: the ids of a set in rising order, each fed with its distance from the target; the first fault decides (01, "Refusal numbers" and "Store and search").
-use Prim.Native.Nat.{ℕ, zero, suc, _*_, _≤_}
+use Prim.Native.Nat.{ℕ, _*_, _≤_}
 use mathlib.Core.Path.{_≡_}
 use mathlib.Core.List.{List, [], _∷_}
 use lib.Ieee.{Float, isNan}

@@ -1,14 +1,14 @@
 -- Several vectors of a basis side by side. Assumes nothing.
 use mathlib.Core.Path.{_≡_, refl, sym, _∙_, ap, subst}
-use mathlib.Core.List.{List, [], _∷_, _++_, append-assoc, append-nil}
-use Prim.Native.Nat.{ℕ, zero, suc, _+_, _-_, _*_, _<_, _≤_}
+use mathlib.Core.List.{List, _++_, append-assoc, append-nil}
+use Prim.Native.Nat.{ℕ, suc, _+_, _-_, _*_, _<_, _≤_}
 use native.Mathlib.Nat.{suc-mul, add-mul, mul-le-mul-right, zero-mul, sub-zero}
 use native.Mathlib.Numerals.{add-one}
 use native.Mathlib.Omega.{arith}
 use lib.ListN.{length, getD, set, take, drop, length-set}
 use lib.Seq.{take-suc-set, take-all}
 use lib.Ieee.{Float, nan}
-use Rattle.vector.specs.Fold.{fold2, dotStep, dotOf, zero32}
+use Rattle.vector.specs.Fold.{dotStep, dotOf, zero32}
 use Rattle.vector.proofs.Laws.{fold2-walk, fold2-done, fold2-take}
 use Rattle.basis.specs.declared.inner.Four.{Four}
 use Rattle.basis.specs.Project.{dotsFrom, projected, rowsFrom}

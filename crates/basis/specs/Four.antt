@@ -3,7 +3,7 @@ use Prim.Native.Nat.{ℕ, _+_}
 use mathlib.Core.List.{List}
 use lib.ListN.{length, take, drop, getD, set}
 use lib.Ieee.{Float, nan}
-use Rattle.vector.specs.Fold.{fold2, dotStep, dotOf, zero32}
+use Rattle.vector.specs.Fold.{fold2, dotStep, dotOf}
 use Rattle.basis.specs.declared.inner.Four.{Four}
 
 abbrev pub four : Float → Float → Float → Float → Four

@@ -1,10 +1,10 @@
 -- What the candidates of a search are: which ids a basis's union has, which ids a layer has, and that nothing falls off the last layer. Assumes nothing.
-use Prim.Native.Nat.{ℕ, zero, suc, _+_, _-_, _*_, _/_, _%_, _<_, _≤_, max, min}
+use Prim.Native.Nat.{ℕ, zero, suc, _-_, _*_, _<_, _≤_, max, min}
 use native.Mathlib.Omega.{arith}
-use mathlib.Core.Path.{_≡_, refl, sym, ap, _∙_, subst}
+use mathlib.Core.Path.{_≡_, refl, sym, ap, _∙_}
 use mathlib.Core.List.{List, [], _∷_}
 use lib.Ieee.{Float}
-use lib.ListN.{length, take, drop, length-replicate}
+use lib.ListN.{length, take, length-replicate}
 use Rattle.index_memory.proofs.Places.{part-long, part-is}
 use Rattle.bitmaps.specs.Words.{has, union}
 use Rattle.bitmaps.proofs.Zip.{byWord-length}
@@ -15,7 +15,7 @@ use Rattle.counting_bitmap.proofs.Counting.{counts}
 use Rattle.counting_bitmap.proofs.Dropped.{drops-nothing}
 use Rattle.faces.specs.Slots.{slotOf, pickedOf, slots, picksOf}
 use Rattle.faces.proofs.Laws.{slot-low, length-picked, slots-begin, picks-more}
-use Rattle.candidates.specs.Gathering.{faceSet, joined, unionOf, Lent, lent, facesAt, targetOn, unionAt, unionsFrom, layersOf, droppedOf}
+use Rattle.candidates.specs.Gathering.{faceSet, joined, unionOf, Lent, facesAt, targetOn, unionAt, unionsFrom, layersOf, droppedOf}
 
 -- ---- the union of a basis
 

@@ -3,7 +3,7 @@ use Prim.Native.Nat.{ℕ, zero, suc, _+_, _*_, _^_, _<_}
 use native.Mathlib.Omega.{arith}
 use mathlib.Core.List.{List, [], _∷_, _++_}
 use lib.Bits.{bitOr, bitAnd, or-lt, and-lt}
-use lib.ListN.{length, getD, take, drop, replicate}
+use lib.ListN.{length, take, drop}
 use Rattle.bitmaps.specs.Words.{byWord, union, shared}
 use Rattle.bitmaps.proofs.Digits.{Words}
 use Rattle.bitmaps.proofs.Members.{words-empty}

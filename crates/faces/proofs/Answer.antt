@@ -1,12 +1,11 @@
 -- The answers of find_face_idx and of spilling. Assumes nothing.
 use Prim.Native.Nat.{ℕ, zero, suc, _-_}
-use mathlib.Core.Path.{_≡_, refl, sym, _∙_, ap}
-use mathlib.Core.Bool.{Bool, true, false}
+use mathlib.Core.Path.{_≡_, sym, _∙_, ap}
 use mathlib.Core.List.{List, _++_}
 use native.Mathlib.Nat.{sub-zero}
 use native.Mathlib.Omega.{arith}
 use borrow.Author.Tests.{eq-eqb, ne-eqb, leb-true}
-use lib.Dec.{leb, eqb}
+use lib.Dec.{leb}
 use lib.IntN.{ℤ, pos}
 use lib.ListN.{length, drop, replicate}
 use lib.Ieee.{Float}
@@ -14,7 +13,7 @@ use Rattle.paper.specs.Choice.{_and_}
 use Rattle.paper.proofs.Choice.{and-l, and-r, refuse-ok, refuse-rest}
 use Rattle.vector.specs.Finite.{allFinite}
 use Rattle.faces.specs.Slots.{facesOf, afterOf, picksOf, Facable}
-use Rattle.faces.specs.Answer.{faceNumber, Faces, Spilling, spilling, listed, spillOf}
+use Rattle.faces.specs.Answer.{faceNumber, Faces, spilling, spillOf}
 use Rattle.faces.specs.declared.Facing.{Facing}
 use Rattle.faces.specs.declared.Facing.the-variants.{Face, Refused}
 

@@ -1,17 +1,16 @@
 -- `beats` is the order of a number, `rank`: on finite values of binary32, y beats x exactly if x's rank is below y's. So it is a strict weak order.
 use mathlib.Core.Path.{_≡_, refl, sym, _∙_, ap, subst}
-use mathlib.Core.Bool.{Bool, true, false, not, cond, Bool·beq, _&&_, _||_, and-true, and-self}
+use mathlib.Core.Bool.{Bool, true, false, not, _&&_, _||_, and-true, and-self}
 use Prim.Native.Nat.{ℕ, zero, suc, _+_, _-_, _*_, _/_, _%_, zero-le, suc-le-suc, _^_, _<_, _≤_}
-use native.Mathlib.Nat.{zero-mul, zero-add, one-mul, mul-one, mul-assoc, mul-comm, mul-left-comm, mul-right-comm, not-le-of-lt, mul-div-cancel, mul-pos, div-one, mul-lt-mul-of-pos-right, lt-of-mul-lt-mul-right, mul-le-mul-right, le-of-mul-le-mul-right, eq-of-mul-eq-mul-right}
+use native.Mathlib.Nat.{zero-mul, zero-add, one-mul, mul-one, mul-assoc, mul-comm, mul-right-comm, not-le-of-lt, mul-div-cancel, mul-pos, div-one, mul-lt-mul-of-pos-right, lt-of-mul-lt-mul-right, mul-le-mul-right, le-of-mul-le-mul-right, eq-of-mul-eq-mul-right}
 use native.Mathlib.Omega.{arith}
-use lib.Dec.{T, ltb, leb, eqb, leb→le, ltb→lt, eqb→eq, lit<, lit≤, eqb·suc-zero}
+use lib.Dec.{T, ltb, leb, eqb, leb→le, eqb→eq, lit<, lit≤, eqb·suc-zero}
 use lib.Arith.{lt-of-le-ne}
 use lib.Pow.{pow-add, pow-lt, pow-pos}
 use lib.IntN.{ℤ, pos, negsuc}
 use lib.Ieee.{Float, nan, inf, fin, binary32, up, down, fits, lt, eq, neg, ofBits, below, level}
 use lib.Ieee.Fits.{and-l, and-r, up-pos, down-pos}
-use borrow.Author.Tests.{ltb-true, ltb-false, leb-true, leb-false, eqb-true, eqb-false, lt-ltb, le-ltb, lt-leb, eq-eqb, ne-eqb}
-use Rattle.vector.specs.Fold.{zero32}
+use borrow.Author.Tests.{ltb-true, ltb-false, leb-true, leb-false, eqb-true, eqb-false, lt-ltb, le-ltb, eq-eqb, ne-eqb}
 use Rattle.vector.specs.Finite.{isFinite}
 use Rattle.faces.specs.Best.{sizeOf, positive, beats}
 

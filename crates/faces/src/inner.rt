@@ -5,7 +5,6 @@ ghost use mathlib.Core.Bool.{true};
 ghost use mathlib.Core.List.{_++_};
 ghost use Prim.Native.Nat.{_+_, _*_, _<_, _≤_};
 ghost use lib.ListN.{length, drop};
-ghost use Rattle.vector.specs.Finite.{allFinite};
 ghost use Rattle.faces.specs.Best.{sizeOf, beats, bestOf};
 ghost use Rattle.faces.specs.Slots.{facing, slotFor, faceOf, slotOf, pickedOf, facesOf, afterOf, Facable};
 

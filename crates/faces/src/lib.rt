@@ -1,7 +1,6 @@
 // Faces: find_face_idx and the spilling of a search (helpers of vector_store.rs).
 // The face of a projection is the place of its entry of greatest absolute value, with that entry's sign.
 ghost use mathlib.Core.Path.{_≡_};
-ghost use lib.ListN.{length};
 ghost use Rattle.faces.specs.Slots.{faceOf, picksOf};
 ghost use Rattle.faces.specs.Answer.{faceNumber, Faces, spilling, spillOf};
 

@@ -1,16 +1,16 @@
 -- What the tests of lengths give. Assumes nothing.
-use Prim.Native.Nat.{ℕ, _+_, _*_, _/_, _≤_}
-use mathlib.Core.Path.{_≡_, refl, sym, ap, _∙_}
+use Prim.Native.Nat.{ℕ}
+use mathlib.Core.Path.{_≡_, refl}
 use mathlib.Core.Bool.{Bool, true, false}
 use native.Mathlib.Omega.{arith}
 use borrow.Author.Tests.{eqb-true, eq-eqb}
 use lib.Dec.{eqb}
-use lib.ListN.{length, replicate, length-replicate}
-use Rattle.paper.specs.Choice.{_and_, pick, refuse}
-use Rattle.paper.specs.Geometry.{Geo, geoOk, GeoFacts, setWords, basesLen, faceWords, vectorBytes}
+use lib.ListN.{length-replicate}
+use Rattle.paper.specs.Choice.{_and_, refuse}
+use Rattle.paper.specs.Geometry.{Geo, geoOk, setWords, basesLen, faceWords, vectorBytes}
 use Rattle.paper.proofs.Choice.{and-l, and-r}
 use Rattle.paper.proofs.Geometry.{geo-facts}
-use Rattle.index_memory.specs.Memory.{Ix, ixOf, storeOk, ownOk, ownOkIx, basesOk, ownRefusal, zeros, emptyIx, StoreSized, Sized}
+use Rattle.index_memory.specs.Memory.{ixOf, storeOk, ownOk, ownOkIx, basesOk, ownRefusal, zeros, emptyIx, StoreSized, Sized}
 
 pub store-sized : (d cap mode lm lv : ℕ) → storeOk d cap mode lm lv ≡ true → StoreSized d cap mode lm lv
 unfolding storeOk

@@ -1,8 +1,8 @@
 // Lines put into a buffer at a place. Each call asks for the room that its longest text needs, and answers the place behind what it put.
 ghost use mathlib.Core.Path.{_≡_};
-ghost use Prim.Native.Nat.{ℕ, _+_, _*_, _≤_};
-ghost use mathlib.Core.List.{List, [], _∷_, _++_};
-ghost use lib.ListN.{length, take};
+ghost use Prim.Native.Nat.{_+_, _*_, _≤_};
+ghost use mathlib.Core.List.{[], _∷_, _++_};
+ghost use lib.ListN.{length};
 ghost use Rattle.lines.specs.Lines.{Put, trimmed, decimal, hexadecimal, glyph as Lines·glyph, told, entry, listing};
 use super::Told;
 

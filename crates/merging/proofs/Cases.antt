@@ -1,17 +1,15 @@
 -- The ways out of making empty and of merging, on plain values. Assumes nothing.
-use Prim.Native.Nat.{ℕ, _+_, _*_, _≤_}
-use mathlib.Core.Path.{_≡_, refl, sym, ap, ap₂, _∙_}
+use Prim.Native.Nat.{ℕ, _*_}
+use mathlib.Core.Path.{_≡_, sym, ap₂, _∙_}
 use mathlib.Core.List.{List}
-use mathlib.Core.Bool.{Bool, true, false}
+use mathlib.Core.Bool.{true, false}
 use native.Mathlib.Omega.{arith}
 use native.Mathlib.Nat.{mul-le-mul}
-use lib.Dec.{eqb}
 use lib.ListN.{length}
-use borrow.Author.Tests.{eq-eqb, ne-eqb}
-use Rattle.paper.specs.Choice.{_and_, pick, refuse}
+use borrow.Author.Tests.{ne-eqb}
 use Rattle.paper.specs.Geometry.{Geo, geoOk, compSize}
 use Rattle.paper.proofs.Geometry.{comp-le}
-use Rattle.index_memory.specs.Memory.{Ix, ixOf, ownOk, ownOkIx, ownRefusal, emptyIx, slotBytes, Sized}
+use Rattle.index_memory.specs.Memory.{Ix, ixOf, ownOkIx, ownRefusal, emptyIx, Sized}
 use Rattle.index_memory.proofs.Lengths.{own-tests, own-first, own-sized}
 use Rattle.bitmaps.specs.Words.{union, shared, isEmpty}
 use Rattle.merging.specs.Merging.{done, emptyOf, copied, mergedIx, mergeRefusal, mergeOf, CopyArgs}

@@ -2,7 +2,6 @@
 use Prim.Native.Nat.{ℕ, zero, suc, _+_, _*_, _≤_, _<_}
 use mathlib.Core.Path.{_≡_, _∙_, sym, ap, refl, subst}
 use mathlib.Core.List.{List, [], _∷_, _++_}
-use mathlib.Core.Bool.{Bool, true, false}
 use native.Mathlib.Omega.{arith}
 use native.Mathlib.Numerals.{add-one}
 use native.Mathlib.Decide.{ℕ-discrete}
@@ -10,9 +9,8 @@ use lib.Bits.{bitAnd}
 use lib.Count.{ones}
 use lib.ListN.{length, getD, set, take, drop, length-drop}
 use lib.Seq.{sets, take-suc, getD-drop, length-take-le}
-use Rattle.paper.specs.Choice.{pick}
 use Rattle.quantization.proofs.Sets.{sets-append}
-use Rattle.bitmaps.specs.Words.{has, holds, shared, size, byWord}
+use Rattle.bitmaps.specs.Words.{has, shared, size}
 use Rattle.bitmaps.proofs.Zip.{byWord-length}
 use Rattle.bitmaps.proofs.Digits.{byWord-at}
 use Rattle.bitmaps.proofs.Size.{size-drop}

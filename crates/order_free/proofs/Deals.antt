@@ -1,5 +1,5 @@
 -- Additions dealt to several empty indexes, which are merged in any order and grouping, give the index that one order of them gives. Assumes nothing.
-use Prim.Native.Nat.{ℕ, zero, suc, _+_, _*_, _/_, _≤_, _<_, min}
+use Prim.Native.Nat.{ℕ, zero, suc, _+_, _*_, _≤_, _<_, min}
 use mathlib.Core.Path.{_≡_, refl, sym, ap, ap₂, _∙_, subst}
 use mathlib.Core.List.{List, [], _∷_, _++_}
 use mathlib.Core.Bool.{Bool, true, false}
@@ -13,11 +13,11 @@ use lib.Ieee.{Float}
 use lib.ListN.{length, take, drop, length-drop}
 use lib.Seq.{sets, length-sets, length-take-le}
 use Rattle.paper.specs.Choice.{_and_, pick}
-use Rattle.paper.specs.Geometry.{Geo, geoOk, compSize, faceWords, setWords, vectorBytes}
-use Rattle.index_memory.specs.Memory.{Ix, ixOf, emptyIx, ownOkIx, faceBit, slotBytes, floatZeros}
+use Rattle.paper.specs.Geometry.{Geo, geoOk, faceWords, setWords}
+use Rattle.index_memory.specs.Memory.{Ix, emptyIx, faceBit, slotBytes, floatZeros}
 use Rattle.index_memory.proofs.Places.{place, mark-low}
 use Rattle.index_memory.proofs.Stores.{sets-comm, sets-over, part-sets, part-same}
-use Rattle.bitmaps.specs.Words.{has, holds, union, shared, inserted, empty, isEmpty, byWord}
+use Rattle.bitmaps.specs.Words.{has, holds, union, shared, inserted, empty, isEmpty}
 use Rattle.bitmaps.proofs.Zip.{byWord-length}
 use lib.Bits.{bitOr}
 use Rattle.vector.specs.Norm.{normalized}
@@ -26,11 +26,11 @@ use Rattle.adding.specs.Adding.{faceSlot, withFaces, withVector, addedIx, Shape
 use Rattle.adding.proofs.Laws.{length-stored}
 use Rattle.merging.specs.Merging.{copied, mergedIx, mergeRefusal, mergeOf}
 use Rattle.order_free.specs.Order.{Addition, Call, whats, Lent, run, Shuffle, Fresh, Distinct, Deal, one, two, dealt, built, Accepted}
-use Rattle.order_free.specs.Grown.{lastOr, taken, takenAs, markOf, Grown}
+use Rattle.order_free.specs.Grown.{lastOr, taken, takenAs, markOf}
 use Rattle.bitmaps.proofs.Members.{has-empty}
-use Rattle.order_free.proofs.Words.{length-inserted, union-inserted, union-empty, has-put, share-none}
-use Rattle.order_free.proofs.Orders.{length-faces, ix-eq, SameLen, same-refl, same-trans, same-sym, num, num-same, put, puts, put-same, puts-same, shape-good, run-is, distinct-shuffle, puts-shuffle}
-use Rattle.order_free.proofs.Grows.{own-same, grown-puts}
+use Rattle.order_free.proofs.Words.{union-inserted, union-empty, has-put, share-none}
+use Rattle.order_free.proofs.Orders.{length-faces, ix-eq, SameLen, same-trans, same-sym, num, num-same, put, puts, put-same, puts-same, shape-good, run-is, distinct-shuffle, puts-shuffle}
+use Rattle.order_free.proofs.Grows.{grown-puts}
 
 -- ---- copied slots
 

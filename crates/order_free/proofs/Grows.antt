@@ -1,5 +1,5 @@
 -- What additions to an empty index leave in it, bit by bit and byte by byte. Assumes nothing.
-use Prim.Native.Nat.{ℕ, zero, suc, _+_, _-_, _*_, _/_, _%_, _^_, _≤_, _<_}
+use Prim.Native.Nat.{ℕ, zero, suc, _+_, _-_, _*_, _≤_, _<_}
 use mathlib.Core.Path.{_≡_, refl, sym, ap, ap₂, _∙_, subst}
 use mathlib.Core.List.{List, [], _∷_, _++_}
 use mathlib.Core.Bool.{Bool, true, false}
@@ -10,22 +10,22 @@ use native.Mathlib.Nat.{suc-mul, add-comm}
 use borrow.Author.Tests.{eqb-true, eq-eqb, ne-eqb}
 use lib.Dec.{eqb}
 use lib.Ieee.{Float}
-use lib.ListN.{length, getD, take, drop, replicate, length-replicate, length-drop, take-append-drop}
-use lib.Seq.{sets, drop-drop, length-take-le}
+use lib.ListN.{length, take, drop, length-replicate, length-drop, take-append-drop}
+use lib.Seq.{sets, drop-drop}
 use Rattle.paper.specs.Choice.{_and_, pick}
-use Rattle.paper.specs.Geometry.{Geo, geoOk, GeoFacts, compSize, faceWords, setWords, vectorBytes}
-use Rattle.index_memory.specs.Memory.{Ix, ixOf, emptyIx, ownOkIx, faceBit, slotBytes, slotAt, storedAt, zeros, floatZeros}
+use Rattle.paper.specs.Geometry.{Geo, geoOk, faceWords, setWords, vectorBytes}
+use Rattle.index_memory.specs.Memory.{Ix, emptyIx, ownOkIx, faceBit, slotBytes, slotAt, storedAt, zeros, floatZeros}
 use Rattle.index_memory.proofs.Lengths.{own-good, own-sized}
 use Rattle.index_memory.proofs.Places.{place, mark-low, face-bit-low}
 use Rattle.index_memory.proofs.Stores.{part-sets, part-same}
-use Rattle.bitmaps.specs.Words.{has, inserted}
+use Rattle.bitmaps.specs.Words.{has}
 use Rattle.bitmaps.proofs.Digits.{Words}
 use Rattle.vector.specs.Norm.{normalized}
 use Rattle.quantization.specs.Stored.{lowerBytes}
 use Rattle.adding.specs.Adding.{faceSlot, withFaces, withVector, addedIx, Shaped}
 use Rattle.adding.proofs.Laws.{length-stored, face-slot-low}
 use Rattle.order_free.specs.Order.{Addition, Call, whats, Lent, run}
-use Rattle.order_free.specs.Grown.{lastOr, taken, takenAs, faceAmong, takenAt, markOf, faceOf, bytesOf, Grown}
+use Rattle.order_free.specs.Grown.{lastOr, taken, takenAs, faceAmong, takenAt, Grown}
 use Rattle.bitmaps.proofs.Members.{has-empty, same-words, words-empty}
 use Rattle.order_free.proofs.Words.{has-put, words-inserted}
 use Rattle.order_free.proofs.Orders.{ix-eq, SameLen, same-refl, same-trans, num, num-same, put, puts, put-same, puts-same, shape-good, length-faces, run-is}

@@ -1,21 +1,21 @@
 -- Additions commute: every order of additions in which no id stands twice gives each the same answer, and the same index. Assumes nothing.
-use Prim.Native.Nat.{ℕ, zero, suc, _+_, _*_, _≤_, _<_}
-use mathlib.Core.Path.{_≡_, refl, sym, ap, ap₂, _∙_, subst}
-use mathlib.Core.List.{List, [], _∷_, _++_}
+use Prim.Native.Nat.{ℕ, zero, suc, _*_}
+use mathlib.Core.Path.{_≡_, refl, sym, ap, _∙_, subst}
+use mathlib.Core.List.{List, [], _∷_}
 use mathlib.Core.Bool.{Bool, true, false}
-use borrow.Author.Tests.{eqb-true, eq-eqb}
+use borrow.Author.Tests.{eqb-true}
 use lib.Dec.{eqb}
 use lib.Ieee.{Float}
 use lib.ListN.{length, length-replicate}
-use lib.Seq.{sets, length-sets}
-use Rattle.paper.specs.Choice.{pick, refuse}
-use Rattle.paper.specs.Geometry.{Geo, GeoFacts, compSize, faceWords, setWords, vectorBytes}
-use Rattle.index_memory.specs.Memory.{Ix, ixOf, emptyIx, faceBit, slotBytes, slotAt, floatZeros}
+use lib.Seq.{length-sets}
+use Rattle.paper.specs.Choice.{pick}
+use Rattle.paper.specs.Geometry.{Geo, compSize}
+use Rattle.index_memory.specs.Memory.{Ix, ixOf, emptyIx, faceBit, slotAt, floatZeros}
 use Rattle.index_memory.proofs.Stores.{sets-comm, places-apart}
 use Rattle.bitmaps.specs.Words.{inserted}
 use Rattle.vector.specs.Norm.{normalized}
 use Rattle.quantization.specs.Stored.{lowerBytes}
-use Rattle.adding.specs.Adding.{faceSlot, withFaces, withVector, addedIx, shapeRefusal, lateRefusal, addRefusal, addOf, Shaped}
+use Rattle.adding.specs.Adding.{faceSlot, withFaces, withVector, addedIx, addRefusal, addOf, Shaped}
 use Rattle.adding.proofs.Laws.{length-stored, accepted-shape}
 use Rattle.order_free.specs.Order.{Addition, Call, whats, Lent, answer, step, run, Shuffle, none, keep, swap, then, Fresh, Distinct}
 use Rattle.order_free.proofs.Words.{inserted-comm, length-inserted}

@@ -1,19 +1,16 @@
 -- The theorems at the calls: what filling, two orders and two deals give, on plain values. Assumes nothing.
 use Prim.Native.Nat.{ℕ}
-use mathlib.Core.Path.{_≡_, refl, sym, ap, ap₂, _∙_, subst}
+use mathlib.Core.Path.{_≡_, refl, sym, ap, ap₂, _∙_}
 use mathlib.Core.List.{List, [], _∷_, _++_}
-use mathlib.Core.Bool.{Bool, true, false}
-use lib.Dec.{eqb}
+use mathlib.Core.Bool.{true}
 use lib.Ieee.{Float}
 use lib.ListN.{length, length-replicate}
-use Rattle.paper.specs.Choice.{pick, refuse}
 use Rattle.paper.specs.Geometry.{Geo, geoOk}
-use Rattle.index_memory.specs.Memory.{Ix, ixOf, emptyIx, ownOk, ownOkIx, ownRefusal, floatZeros}
+use Rattle.index_memory.specs.Memory.{Ix, emptyIx, ownOkIx, ownRefusal}
 use Rattle.adding.specs.Adding.{Added, added, addOf}
 use Rattle.merging.specs.Merging.{Done, done, emptyOf, mergeOf}
-use Rattle.order_free.specs.Order.{Addition, addition, Call, whats, Lent, step, run, Shuffle, none, keep, swap, then, Fresh, Distinct, Deal, one, two, dealt, built, Accepted, calls, filled, FillArgs}
-use Rattle.order_free.proofs.Orders.{run-is, puts, puts-shuffle, run-shuffle, SameLen, puts-same}
-use Rattle.order_free.proofs.Grows.{own-same}
+use Rattle.order_free.specs.Order.{Addition, Call, whats, Lent, step, run, swap, Deal, one, two, built, Accepted, calls, filled, FillArgs}
+use Rattle.order_free.proofs.Orders.{run-is, puts, run-shuffle}
 use Rattle.order_free.proofs.Deals.{any-deal, puts-append}
 
 lent-calls : (g : Geo) (xs : List Addition) → Lent g (calls g xs)

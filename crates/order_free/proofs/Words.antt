@@ -1,9 +1,8 @@
 -- Sets of ids as words: ids put in, in any order, and unions. Assumes nothing.
-use Prim.Native.Nat.{ℕ, zero, suc, _+_, _*_, _/_, _%_, _^_, _≤_, _<_, min, max}
+use Prim.Native.Nat.{ℕ, zero, suc, _+_, _*_, _/_, _%_, _^_, _<_, min, max}
 use mathlib.Core.Path.{_≡_, refl, sym, ap, ap₂, _∙_, subst}
-use mathlib.Core.List.{List, [], _∷_, _++_}
-use mathlib.Core.Bool.{Bool, true, false}
-use mathlib.Core.Logic.{⊎-elim}
+use mathlib.Core.List.{List, [], _∷_}
+use mathlib.Core.Bool.{Bool, true}
 use native.Mathlib.Omega.{arith}
 use native.Mathlib.Decide.{ℕ-discrete}
 use native.Mathlib.Nat.{mod-lt}
@@ -12,13 +11,12 @@ use lib.Arith.{bin-ind, digits-div, digits-mod}
 use lib.Bits.{bitAnd, bitOr, or-step, or-comm, or-zero-r, and-lt, or-lt}
 use lib.Dec.{eqb}
 use lib.Pow.{pow-lt}
-use lib.ListN.{length, getD, set, replicate, length-set, length-replicate}
+use lib.ListN.{length, getD, set, length-set}
 use lib.Seq.{getD-set-same, getD-set-other}
 use Rattle.paper.specs.Choice.{pick}
-use Rattle.bitmaps.specs.Words.{digit, has, holds, byWord, union, shared, inserted, empty, size, isEmpty, sumTo}
-use Rattle.bitmaps.proofs.Zip.{byWord-length}
+use Rattle.bitmaps.specs.Words.{has, byWord, union, shared, inserted, empty, size, isEmpty, sumTo}
 use Rattle.bitmaps.proofs.Digits.{Words, byWord-at, has-shared}
-use Rattle.bitmaps.proofs.Rising.{has-inserted, has-kept, le-or-lt}
+use Rattle.bitmaps.proofs.Rising.{has-inserted, has-kept}
 use Rattle.bitmaps.proofs.Size.{size-has, sum-ext}
 
 -- ---- or

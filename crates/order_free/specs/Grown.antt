@@ -1,6 +1,6 @@
 -- What an index holds after additions to an empty one: of each id its last accepted addition's mark and stored bytes, of each face set's bit
 -- whether an accepted addition put it there, and zeros elsewhere.
-use Prim.Native.Nat.{ℕ, zero, suc, _+_, _*_, _^_, _<_}
+use Prim.Native.Nat.{ℕ, zero, suc, _^_, _<_}
 use mathlib.Core.Path.{_≡_}
 use mathlib.Core.List.{List, [], _∷_}
 use mathlib.Core.Bool.{Bool, true, false}

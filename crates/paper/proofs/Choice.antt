@@ -2,7 +2,7 @@
 use Prim.Native.Nat.{ℕ}
 use mathlib.Core.Path.{_≡_, refl}
 use mathlib.Core.Bool.{Bool, true, false}
-use Rattle.paper.specs.Choice.{_and_, pick, refuse}
+use Rattle.paper.specs.Choice.{_and_, refuse}
 
 pub and-l : (a b : Bool) → a and b ≡ true → a ≡ true
 and-l true b e = refl

@@ -1,13 +1,13 @@
 -- What a good geometry and a good capacity give. Assumes nothing.
-use Prim.Native.Nat.{ℕ, _*_, _/_, _%_, _≤_}
-use mathlib.Core.Path.{_≡_, refl}
+use Prim.Native.Nat.{ℕ, _*_, _/_, _≤_}
+use mathlib.Core.Path.{_≡_}
 use mathlib.Core.Bool.{Bool, true, false}
 use native.Mathlib.Omega.{arith}
 use native.Mathlib.Nat.{mul-assoc}
 use borrow.Author.Tests.{leb-true, eqb-true}
 use lib.Dec.{leb, eqb}
-use Rattle.paper.specs.Choice.{_and_, pick}
-use Rattle.paper.specs.Geometry.{capOk, modeOk, geoOk, compSize, setWords, faceWords, GeoFacts, CapFacts}
+use Rattle.paper.specs.Choice.{pick}
+use Rattle.paper.specs.Geometry.{capOk, geoOk, compSize, setWords, faceWords, GeoFacts, CapFacts}
 use Rattle.paper.proofs.Choice.{and-l, and-r}
 
 pub cap-facts : (cap : ℕ) → capOk cap ≡ true → CapFacts cap

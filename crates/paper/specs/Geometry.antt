@@ -1,7 +1,7 @@
 -- What a geometry is, and how long each lent memory has to be.
-use Prim.Native.Nat.{ℕ, _+_, _*_, _/_, _%_, _≤_}
+use Prim.Native.Nat.{ℕ, _*_, _/_, _%_, _≤_}
 use mathlib.Core.Path.{_≡_}
-use mathlib.Core.Bool.{Bool, true, false}
+use mathlib.Core.Bool.{Bool, true}
 use lib.Dec.{leb, eqb}
 use Rattle.paper.specs.Choice.{_and_, pick}
 use Rattle.paper.specs.declared.Lengths.{Lengths}

@@ -1,6 +1,5 @@
 // What every crate of the index shares: the refusal numbers, the geometry and its test, and the length of each lent memory.
 ghost use mathlib.Core.Path.{_≡_};
-ghost use Prim.Native.Nat.{_≤_};
 ghost use Rattle.paper.specs.Geometry.{capOk, modeOk, geoOk, compSize, geo, lengthsOf};
 
 pub mod inner;

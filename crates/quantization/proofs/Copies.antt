@@ -1,22 +1,20 @@
 -- Copying out and reading: what a turn of each loop leaves to do, the two definitions by their cases, and that reading gives back what was
 -- copied out. Assumes nothing.
-use mathlib.Core.Path.{_≡_, refl, sym, ap, _∙_, subst}
-use mathlib.Core.Bool.{Bool, true, false}
-use mathlib.Core.List.{List, [], _∷_, _++_, map, append-nil}
-use Prim.Native.Nat.{ℕ, zero, suc, _+_, _-_, _*_, _/_, _%_, _≤_, _<_}
+use mathlib.Core.Path.{_≡_, refl, sym, ap, _∙_}
+use mathlib.Core.Bool.{true, false}
+use mathlib.Core.List.{List, _++_, map, append-nil}
+use Prim.Native.Nat.{ℕ, suc, _+_, _-_, _*_, _/_, _%_, _≤_, _<_}
 use native.Mathlib.Nat.{suc-mul, le-div-iff-mul-le, div-lt-iff-lt-mul, mul-div-cancel, mul-mod-left, le-refl}
 use native.Mathlib.Numerals.{add-one}
 use native.Mathlib.Omega.{arith}
-use lib.Dec.{T, leb, eqb}
 use lib.ListN.{length, getD, take, drop, set, length-map, drop-of-length-le}
 use lib.Seq.{sets, drop-cons, drop-length, take-at}
 use lib.Ieee.{Float, nan}
 use borrow.Author.Tests.{le-leb, lt-leb, eq-eqb, ne-eqb}
-use Rattle.paper.specs.Choice.{_and_, pick, refuse}
 use Rattle.paper.specs.Geometry.{modeOk, compSize}
-use Rattle.paper.proofs.Geometry.{comp-low, comp-le}
+use Rattle.paper.proofs.Geometry.{comp-low}
 use Rattle.quantization.specs.Stored.{compBytes, lowerBytes, componentAt, components, restored, Fit}
-use Rattle.quantization.specs.Copies.{Marshalled, marshalled, marshalRefusal, marshalOf, Unmarshalled, unmarshalled, unmarshalRefusal, unmarshalOf}
+use Rattle.quantization.specs.Copies.{Marshalled, marshalled, marshalRefusal, marshalOf, unmarshalled, unmarshalRefusal, unmarshalOf}
 use Rattle.quantization.proofs.Sets.{sets-append, sets-front}
 use Rattle.quantization.proofs.Stored.{length-comp, length-lower, length-components, components-back, comp-room}
 

@@ -3,10 +3,10 @@ use mathlib.Core.Path.{_≡_, refl, sym, ap, _∙_, subst}
 use mathlib.Core.Logic.{_≢_}
 use mathlib.Core.Bool.{Bool, true, false, not}
 use Prim.Native.Nat.{ℕ, zero, suc, _+_, _-_, _*_, _/_, _%_, _^_, _≤_, _<_, compare, Ordering, Ordering·lt, Ordering·eq, Ordering·gt}
-use native.Mathlib.Nat.{le-refl, le-trans, le-of-eq, mul-right-comm, add-mul, add-assoc, pow-suc, mul-le-mul-right, mul-lt-mul-of-pos-right, lt-of-lt-of-le, lt-of-le-of-lt}
+use native.Mathlib.Nat.{le-refl, mul-right-comm, add-mul, add-assoc, pow-suc, mul-le-mul-right, mul-lt-mul-of-pos-right}
 use native.Mathlib.Decide.{decLt, decLe}
 use native.Mathlib.Omega.{arith}
-use lib.Dec.{T, isLe, isEq, ltb, eqb, leb→le, nleb→lt, eqb→eq, eqb-refl}
+use lib.Dec.{T, isLe, isEq, eqb, leb→le, nleb→lt, eqb→eq, eqb-refl}
 use lib.Pow.{pow-pos}
 use lib.Bits.{bitOr, or-lt}
 use lib.Ieee.{binary32, nanBits, nearest}

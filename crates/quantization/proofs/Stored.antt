@@ -1,26 +1,25 @@
 -- Laws of stored components: their sizes, reading back what was stored, what stores elsewhere leave alone. Assumes nothing.
 use mathlib.Core.Path.{_≡_, refl, sym, ap, _∙_, subst}
-use mathlib.Core.Bool.{Bool, true, false, not}
+use mathlib.Core.Bool.{Bool, not}
 use mathlib.Core.List.{List, [], _∷_, _++_, map}
-use Prim.Native.Nat.{ℕ, zero, suc, _+_, _-_, _*_, _/_, _%_, _^_, _≤_, _<_}
+use Prim.Native.Nat.{ℕ, zero, suc, _+_, _*_, _%_, _^_, _≤_, _<_}
 use native.Mathlib.Nat.{suc-mul, mul-le-mul-right}
 use native.Mathlib.Decide.{decLt, decLe}
 use native.Mathlib.Omega.{arith}
 use lib.Dec.{T, eqb}
 use lib.ListN.{length, getD, take, drop, length-append}
 use lib.Seq.{sets, length-sets}
-use lib.Ieee.{Float, nan, binary32, toBits, ofBits, fits, isNan, nanBits}
+use lib.Ieee.{Float, nan, binary32, toBits, ofBits, fits, nanBits}
 use lib.Ieee.Bits.{ofBits-toBits, toBits-lt, ofBits-fits, toBits-ofBits, nanBits-is}
 use borrow.Author.Tests.{eq-eqb, ne-eqb}
 use Rattle.paper.specs.Choice.{pick}
 use Rattle.paper.specs.Geometry.{compSize}
 use Rattle.sqrt.proofs.Bits.{nan-bits, reads-nan, reads-number}
 use Rattle.quantization.specs.Bf16.{lowered, widened}
-use Rattle.quantization.specs.Bytes.{leBytes, leWord}
 use Rattle.quantization.specs.Stored.{encoded, decoded, restored, compBytes, lowerBytes, componentAt, components, Fit}
 use Rattle.quantization.proofs.Sets.{sets-append}
 use Rattle.quantization.proofs.Bytes.{length-le, word-drop, word-take, word-below, word-above, word-put}
-use Rattle.quantization.proofs.Halves.{lowered-lt, lowered-down, half-back}
+use Rattle.quantization.proofs.Halves.{lowered-lt, half-back}
 
 -- ---- the two modes
 

@@ -1,7 +1,7 @@
 -- bf16, the upper half of a binary32 (01, "bf16"), on bits.
 use mathlib.Core.Path.{_≡_}
 use mathlib.Core.Logic.{_≢_}
-use Prim.Native.Nat.{ℕ, _+_, _-_, _*_, _/_, _%_, _≤_, _<_}
+use Prim.Native.Nat.{ℕ, _+_, _-_, _*_, _/_, _%_, _≤_}
 use lib.Bits.{bitOr}
 use lib.Ieee.{binary32, nanBits}
 use lib.Ieee.Nearest.{closest}

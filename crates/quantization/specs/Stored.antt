@@ -1,6 +1,6 @@
 -- Components as they are stored (01, "Geometry and memory", "bf16"): little-endian, in mode 0 the four bytes of the binary32, in mode 1 the
 -- two of its bf16. Everything is said once, over the component's size.
-use mathlib.Core.List.{List, [], _∷_, _++_, map}
+use mathlib.Core.List.{List, [], _∷_, _++_}
 use Prim.Native.Nat.{ℕ, zero, suc, _+_}
 use lib.Dec.{T, eqb}
 use lib.ListN.{getD}

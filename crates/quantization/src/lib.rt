@@ -1,7 +1,6 @@
 // quantization.rs: bf16 on bits, and vectors as stored bytes. The Rust's two types of quantization are the store mode: 0 keeps
 // the four bytes of each component (NoQuantization), 1 its bf16 in two (BF16Quantization).
 ghost use mathlib.Core.Path.{_≡_};
-ghost use Prim.Native.Nat.{ℕ};
 ghost use Rattle.quantization.specs.Bf16.{lowered, widened};
 ghost use Rattle.quantization.specs.Copies.{marshalled, marshalOf, unmarshalled, unmarshalOf};
 

@@ -1,6 +1,6 @@
 // Numbers and floats that stand in a record, little-endian (01, "The search program"). Each call asks that the bytes are there.
 ghost use mathlib.Core.Path.{_≡_};
-ghost use Prim.Native.Nat.{ℕ, _+_, _*_, _≤_, _<_};
+ghost use Prim.Native.Nat.{_+_, _*_, _≤_, _<_};
 ghost use lib.ListN.{length};
 ghost use Rattle.records.specs.Fields.{u16At, u32At, floatsAt};
 

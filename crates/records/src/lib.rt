@@ -1,7 +1,6 @@
 // What a record of the search program asks for, or the number that refuses it (01, "The search program").
 ghost use mathlib.Core.Path.{_≡_};
-ghost use Prim.Native.Nat.{ℕ, _+_, _*_, _≤_, _<_};
-ghost use lib.ListN.{length};
+ghost use Prim.Native.Nat.{_+_, _*_, _<_};
 ghost use Rattle.records.specs.Requests.{Limits, withinLimits, geometryFits, geometryOf, basisOf, additionOf, searchOf, requestOf};
 
 pub mod inner;

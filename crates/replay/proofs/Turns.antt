@@ -1,9 +1,9 @@
 -- One turn, and the end, of the loops that draw and of those that digest. Assumes nothing.
-use Prim.Native.Nat.{ℕ, zero, suc, _+_, _-_, _/_, _%_, _<_, _≤_}
+use Prim.Native.Nat.{ℕ, suc, _+_, _-_, _/_, _%_, _<_, _≤_}
 use native.Mathlib.Numerals.{add-one}
 use native.Mathlib.Omega.{arith}
-use mathlib.Core.Path.{_≡_, refl, ap, _∙_}
-use mathlib.Core.List.{List, [], _∷_, _++_, append-assoc, append-nil}
+use mathlib.Core.Path.{_≡_}
+use mathlib.Core.List.{List, _++_, append-assoc, append-nil}
 use lib.ListN.{length, getD, set, take, drop, drop-of-length-le}
 use lib.Seq.{take-suc-set, take-all, drop-cons}
 use lib.Ieee.{Float}

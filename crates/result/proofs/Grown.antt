@@ -8,7 +8,7 @@ use borrow.Author.Tests.{not-true}
 use lib.ListN.{length}
 use Rattle.paper.proofs.Choice.{and-l, and-r}
 use Rattle.result.specs.Lists.{allOf}
-use Rattle.result.specs.Ranked.{Entry, larger, fed, fedList, inOrder}
+use Rattle.result.specs.Ranked.{Entry, larger, fedList, inOrder}
 use Rattle.result.specs.Sets.{entriesOf, emptySet, fedSet, fedAll, feedAllOf, answer}
 use Rattle.result.specs.declared.ResultSet.{ResultSet}
 use Rattle.result.proofs.Keeps.{entries-fed, entries-none, fed-k, fed-checked, heldE, Sound, sound-empty, sound-fed, feed-accepts}

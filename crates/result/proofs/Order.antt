@@ -8,7 +8,7 @@ use borrow.Author.Tests.{ltb-true, le-ltb}
 use lib.Dec.{eqb, ltb}
 use lib.Ieee.{Float, nan, inf, fin, up, down, lt, below}
 use lib.ListN.{take}
-use Rattle.paper.specs.Choice.{_and_, pick}
+use Rattle.paper.specs.Choice.{pick}
 use Rattle.paper.proofs.Choice.{and-l, and-r}
 use Rattle.result.specs.Ranked.{Entry, larger, placed, stays, fed, fedList, inOrder}
 

@@ -1,6 +1,5 @@
 // The ranked list of a search: at most k entries of an id and a similarity, fed one by one.
 ghost use mathlib.Core.Path.{_≡_};
-ghost use mathlib.Core.Bool.{Bool};
 ghost use Prim.Native.Nat.{_≤_, min};
 ghost use lib.Dec.{eqb};
 ghost use lib.ListN.{drop, take, length};

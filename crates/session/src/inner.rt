@@ -1,6 +1,6 @@
 // A part of a run over lent memory, whose lengths the caller sees to; and the buffer that the input is read into.
 ghost use mathlib.Core.Path.{_≡_};
-ghost use Prim.Native.Nat.{ℕ, _+_, _-_, _≤_};
+ghost use Prim.Native.Nat.{_+_, _-_, _≤_};
 ghost use lib.ListN.{length, take, drop};
 ghost use Rattle.steps.specs.Memory.{Memory, memoryOf};
 ghost use Rattle.steps.specs.Steps.{stateOf};

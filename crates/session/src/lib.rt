@@ -1,6 +1,5 @@
 // A whole run of the search program: records out of the bytes that were read, in whatever pieces (01, "The search program").
 ghost use mathlib.Core.Path.{_≡_};
-ghost use Prim.Native.Nat.{ℕ};
 ghost use lib.ListN.{replicate};
 ghost use Rattle.lines.specs.Lines.{Put};
 ghost use Rattle.steps.specs.Steps.{held};

@@ -1,9 +1,8 @@
 -- Floats and their bits: a NaN has one pattern, and a NaN's pattern is a NaN. Assumes nothing.
-use mathlib.Core.Path.{_≡_, refl, sym, ap, _∙_, subst}
+use mathlib.Core.Path.{_≡_, refl, sym, _∙_, subst}
 use mathlib.Core.Bool.{Bool, true, false, not}
 use Prim.Native.Nat.{ℕ, _%_, _≤_, _<_}
-use native.Mathlib.Omega.{arith}
-use lib.Dec.{T, ltb}
+use lib.Dec.{T}
 use lib.Ieee.{Float, nan, inf, fin, binary32, isNan, ne, div, odd, ofFields, ofBits, toBits, nanBits}
 use lib.Ieee.Compare.{differs-from-itself, nan-differs}
 use lib.Ieee.Bits.{nanBits-is, nanBits-above}

@@ -1,12 +1,12 @@
 -- The root of a float. Assumes nothing.
 use mathlib.Core.Path.{_≡_, refl, sym, ap, _∙_, subst}
 use mathlib.Core.Logic.{_⊎_, inl, inr, ⊎-elim}
-use mathlib.Core.Bool.{Bool, true, false, not}
-use Prim.Native.Nat.{ℕ, _*_, _%_, _≤_, _<_}
+use mathlib.Core.Bool.{Bool, false, not}
+use Prim.Native.Nat.{ℕ, _%_, _≤_, _<_}
 use native.Mathlib.Decide.{decLe, decLt}
 use native.Mathlib.Omega.{arith}
 use lib.Dec.{T}
-use lib.Ieee.{Float, nan, inf, binary32, fits, isNan, nanBits, ofBits, toBits, ofFields, odd}
+use lib.Ieee.{Float, nan, inf, binary32, fits, ofBits, toBits}
 use lib.Ieee.Bits.{ofBits-fits, toBits-lt, toBits-ofBits, nanBits-is}
 use Rattle.sqrt.specs.Root.{Sqrt}
 use Rattle.sqrt.specs.RootOf.{rootOf, root}

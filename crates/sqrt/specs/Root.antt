@@ -5,7 +5,7 @@
 -- 2^277, where the next value would be.) A pattern of size m has the value m / 2^149, and the root of that value is
 -- √(m * 2^149) units. That sizes are IEEE 754's values is the law `value` of proofs/Values.antt.
 use mathlib.Core.Path.{_≡_}
-use Prim.Native.Nat.{ℕ, zero, suc, _+_, _-_, _*_, _/_, _%_, _^_, _≤_, _<_}
+use Prim.Native.Nat.{ℕ, zero, suc, _+_, _-_, _*_, _/_, _%_, _^_, _<_}
 
 -- the size by the exponent's field and the 23 digits: a field of 0 has no leading digit, and else counts as a field of 1
 unfoldable pub sized : ℕ → ℕ → ℕ

@@ -1,6 +1,6 @@
 // The square root of a binary32, on its 32 bits. (The Rust calls f32's sqrt; here it is computed.)
 ghost use mathlib.Core.Path.{_≡_};
-ghost use Prim.Native.Nat.{ℕ, _+_, _*_, _^_, _≤_, _<_};
+ghost use Prim.Native.Nat.{_+_, _*_, _^_, _≤_, _<_};
 ghost use lib.Ieee.{binary32, toBits, ofBits};
 ghost use Rattle.sqrt.specs.Root.{Near, Sqrt};
 ghost use Rattle.sqrt.specs.RootOf.{root};

@@ -2,17 +2,16 @@
 use Prim.Native.Nat.{ℕ, _+_, _-_, _*_, _≤_, _<_}
 use native.Mathlib.Omega.{arith}
 use mathlib.Core.Path.{_≡_, refl, sym, ap, _∙_}
-use mathlib.Core.Bool.{Bool, true, false}
+use mathlib.Core.Bool.{true, false}
 use mathlib.Core.List.{List}
-use lib.Dec.{leb, eqb}
+use lib.Dec.{eqb}
 use lib.Ieee.{Float}
 use lib.ListN.{length, take, drop}
 use borrow.Author.Tests.{eq-eqb, ne-eqb, le-leb, lt-leb, eqb-true}
-use Rattle.paper.specs.Choice.{_and_, pick, refuse}
 use Rattle.paper.specs.Geometry.{Geo, geoOk, setWords}
 use Rattle.paper.proofs.Choice.{and-l, and-r, refuse-ok, refuse-rest}
 use Rattle.paper.proofs.Geometry.{geo-facts, face-words-by-basis}
-use Rattle.index_memory.specs.Memory.{Ix, ownOk, basesOk, slotBytes}
+use Rattle.index_memory.specs.Memory.{Ix, ownOk, basesOk}
 use Rattle.index_memory.proofs.Lengths.{own-sized, bases-long}
 use Rattle.index_memory.proofs.Places.{part-end, part-long, part-is}
 use Rattle.counting_bitmap.specs.Layers.{layer}

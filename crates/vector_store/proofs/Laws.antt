@@ -31,7 +31,7 @@ use Rattle.backend_memory.proofs.Listed.{Each, Listed, rank-listed}
 use Rattle.candidates.specs.Gathering.{Lent, lent, targetFinite, layersOf, droppedOf}
 use Rattle.candidates.proofs.Laws.{search-drops-none}
 use Rattle.candidates.proofs.Words.{layer-words}
-use Rattle.vector_store.specs.Search.{refused, shown, rankedBy, topRankOf, foundOf, Work, Searched, searched, cleared, shapeRefusal, searchRefusal, searchOf}
+use Rattle.vector_store.specs.Search.{refused, rankedBy, topRankOf, foundOf, Work, searched, cleared, shapeRefusal, searchRefusal, searchOf}
 use Rattle.vector_store.specs.declared.Nearest.{Nearest}
 
 -- ---- an accepted search

@@ -1,6 +1,5 @@
 -- P1 to P12 hold, in one claim: the checker computes each from the definitions. Assumes nothing.
-use Prim.Native.Nat.{ℕ}
-use mathlib.Core.Path.{_≡_, refl}
+use mathlib.Core.Path.{refl}
 use native.Mathlib.Omega.{arith}
 use lib.Count.{ones}
 use lib.Ieee.{ofBits, lt, eq, neg, isNan, nanBits}

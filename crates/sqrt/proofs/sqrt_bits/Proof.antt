@@ -4,7 +4,6 @@ use mathlib.Core.Path.{_≡_, refl, sym, ap, _∙_}
 use borrow.Author.Needs.{needs}
 use native.Mathlib.Omega.{arith}
 use lib.Count.{leadingZeros}
-use Rattle.sqrt.specs.Root.{Sqrt}
 use Rattle.sqrt.proofs.Laws.{is-zero, is-infinity, is-invalid, is-root, normal, subnormal, Shifted, shift-up}
 use Rattle.sqrt.proofs.sqrt_bits.Statement.{statement}
 use Rattle.sqrt.proofs.sqrt_bits.Tie as tie

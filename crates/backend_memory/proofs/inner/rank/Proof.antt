@@ -14,7 +14,7 @@ use Rattle.index_memory.proofs.Places.{place}
 use Rattle.bitmaps.specs.Walk.{NextIs, idsFrom}
 use Rattle.bitmaps.proofs.Ids.{walk-start}
 use Rattle.bitmaps.specs.declared.Found.the-variants.{At, Nothing}
-use Rattle.result.specs.Sets.{fedSet, answer, counted}
+use Rattle.result.specs.Sets.{fedSet, counted}
 use Rattle.result.specs.declared.ResultSet.{ResultSet}
 use Rattle.result.proofs.Tests.{is-nan, no-nan}
 use Rattle.result.specs.Ranked.{entry}

@@ -3,14 +3,17 @@ ghost use mathlib.Core.Path.{_≡_};
 ghost use Prim.Native.Nat.{_+_, _*_, _<_, _≤_};
 ghost use lib.ListN.{length};
 ghost use Rattle.paper.specs.Geometry.{compSize};
-ghost use Rattle.index_memory.specs.Memory.{slotBytes};
 ghost use Rattle.bitmaps.specs.Words.{holds};
+ghost use Rattle.sqrt.specs.RootOf.{root};
 ghost use Rattle.vector.specs.Fold.{distStep, squaresOf};
 ghost use Rattle.quantization.specs.Stored.{components};
-ghost use Rattle.backend_memory.specs.Ranking.{similarityOf, refused, rankOf, nearestOf, RankArgs};
+ghost use Rattle.backend_memory.specs.Ranking.{refused, rankOf, nearestOf, RankArgs};
 use bitmaps::Found;
 use result::Fed;
 use result::ResultSet;
+
+// The sign's bit of a pattern: the patterns below it are in the order of their values.
+const SIGN: u32 = 0x8000_0000;
 
 // One component's share of a distance.
 fn step(sum: f32, x: f32, y: f32) -> f32
@@ -41,18 +44,12 @@ pub fn squares(vectors: &[u8], target: &[f32], mode: usize, at: usize) -> f32
     sum
 }
 
-// The distance of the target from the vector in the slot of the id; `slot` is the size of a slot in bytes.
-pub fn compute_similarity(
-    vectors: &[u8],
-    target: &[f32],
-    mode: usize,
-    slot: usize,
-    id: usize,
-) -> f32
-    requires { ⌜ (slot ≡ slotBytes (length (now target)) mode) × (id * slot + slot ≤ length (now vectors)) ⌝ }
-    ensures { λ r. ⌜ r ≡ similarityOf mode (now (vectors .entry)) (now (target .entry)) id ⌝ }
+// The distance of the target from a stored vector, from the sum of the squared differences. (The Rust adds and takes the root in one function; apart,
+// ranking can leave out a root that decides nothing.)
+pub fn compute_similarity(squares: f32) -> f32
+    ensures { λ r. ⌜ r ≡ root squares ⌝ }
 {
-    sqrt::sqrt(squares(vectors, target, mode, id * slot))
+    sqrt::sqrt(squares)
 }
 
 // Whether the id has its mark.
@@ -88,22 +85,31 @@ pub fn rank(
     let slot = paper::component_size(mode) * target.len();
     let mut set = ResultSet::empty(k);
     let mut at = 0;
+    // Most candidates meet a full list with a greater last score: they are only counted, and the set stays where it is. Every sum whose bits are below
+    // `bar` has such a root, since a smaller sum has no greater root and the last score never falls; so that root is not taken.
+    let mut bar: u32 = 0;
     loop {
         match bitmaps::inner::next(ids, at) {
             Found::At(id) => {
                 if !vector_exists(marks, id) {
                     return refuse(paper::NO_MARK);
                 }
-                let similarity = compute_similarity(vectors, target, mode, slot, id);
-                if similarity != similarity {
-                    return refuse(paper::NAN_SCORE);
-                }
+                let sum = squares(vectors, target, mode, id * slot);
+                let bits = sqrt::bits_of(sum);
                 at = id + 1;
-                // Most candidates meet a full list with a greater last score: they are only counted, and the set stays where it is.
-                if result::inner::closed_to(&set.sims, set.len, set.k, similarity) {
+                if bits < bar {
                     set.checked += 1;
                 } else {
-                    set = result::inner::ranked(set, id as u32, similarity);
+                    let similarity = compute_similarity(sum);
+                    if similarity != similarity {
+                        return refuse(paper::NAN_SCORE);
+                    }
+                    if result::inner::closed_to(&set.sims, set.len, set.k, similarity) {
+                        set.checked += 1;
+                        bar = bits % SIGN;
+                    } else {
+                        set = result::inner::ranked(set, id as u32, similarity);
+                    }
                 }
             }
             Found::Nothing => {

@@ -131,7 +131,7 @@ module _ {A : Type 0} (p : A → Bool) where
 abbrev pub heldE : Entry → Bool
 heldE e = isHeld (e .sim)
 
-all-sims : (es : List Entry) → allOf isHeld (map sim-of es) ≡ allOf heldE es
+pub all-sims : (es : List Entry) → allOf isHeld (map sim-of es) ≡ allOf heldE es
 all-sims [] = refl
 all-sims (e ∷ es) = ap (λ (b : Bool). isHeld (e .sim) and b) (all-sims es)
 

@@ -12,3 +12,4 @@ pub mod Order
 pub mod Grown
 pub mod Leaves
 pub mod Sorted
+pub mod Closed

@@ -3,3 +3,4 @@ pub mod Function
 pub mod Values
 pub mod Bits
 pub mod Floats
+pub mod Order

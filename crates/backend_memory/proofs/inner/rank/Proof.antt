@@ -6,7 +6,7 @@ use native.Mathlib.Nat.{mul-le-mul}
 use Prim.Native.Nat.{ℕ, _≤_, _<_, _-_, _*_, _+_}
 use mathlib.Core.Path.{_≡_, _∙_, ap, sym, subst}
 use mathlib.Core.Bool.{true, false}
-use lib.Ieee.{Float, isNan}
+use lib.Ieee.{Float, isNan, binary32, ofBits}
 use lib.ListN.{length}
 use Rattle.paper.proofs.Geometry.{comp-le}
 use Rattle.index_memory.specs.Memory.{slotBytes}
@@ -14,24 +14,29 @@ use Rattle.index_memory.proofs.Places.{place}
 use Rattle.bitmaps.specs.Walk.{NextIs, idsFrom}
 use Rattle.bitmaps.proofs.Ids.{walk-start}
 use Rattle.bitmaps.specs.declared.Found.the-variants.{At, Nothing}
-use Rattle.result.specs.Sets.{fedSet, counted}
+use Rattle.sqrt.specs.RootOf.{rootOf, root}
+use Rattle.result.specs.Places.{fullAbove}
+use Rattle.result.specs.Sets.{entriesOf, fedSet, counted}
 use Rattle.result.specs.declared.ResultSet.{ResultSet}
 use Rattle.result.proofs.Tests.{is-nan, no-nan}
-use Rattle.result.specs.Ranked.{entry}
-use Rattle.result.proofs.Keeps.{Sound, sound-empty, sound-fed, closed-counted, fed-within, fed-k, fed-checked, empty-k, empty-len, empty-checked}
+use Rattle.result.specs.Ranked.{entry, larger, inOrder}
+use Rattle.result.proofs.Closed.{order-fed, closed-stays}
+use Rattle.result.proofs.Keeps.{entries-none, Sound, sound-empty, sound-fed, closed-counted, fed-within, fed-k, fed-checked, empty-k, empty-len, empty-checked}
 use Rattle.backend_memory.specs.Ranking.{scored, ranking, rankOf, similarityOf}
-use Rattle.backend_memory.proofs.Turns.{ended, no-mark, bad-score, one-fed}
+use Rattle.backend_memory.proofs.Turns.{ended, no-mark, bad-score, one-fed, score-is, ClosedBelow, bar-closes, bar-raised, closed-number}
 use Rattle.backend_memory.proofs.inner.rank.Statement.{statement}
 use Rattle.backend_memory.proofs.inner.rank.Tie as tie
 
 abbrev Inv-loop : tie.InvT-loop
-Inv-loop ids marks vectors target mode k slot set₀ at₀ set at =
+Inv-loop ids marks vectors target mode k slot set₀ at₀ bar₀ set at bar =
     (at ≤ length ids * 64) × (set .len ≤ set .k) × (set .k ≤ 256) × (set .checked ≤ at)
     × Sound set
     × (ranking marks (similarityOf mode vectors target) set (idsFrom ids at) ≡ rankOf mode k ids marks vectors target)
+    × ClosedBelow (set .len) (set .k) (set .sims) bar
+    × (inOrder larger (entriesOf set) ≡ true)
 
 abbrev μ-loop : tie.MeasureT-loop
-μ-loop ids marks vectors target mode k slot set₀ at₀ set at = length ids * 64 - at
+μ-loop ids marks vectors target mode k slot set₀ at₀ bar₀ set at bar = length ids * 64 - at
 
 component-size-requires : tie.Need-component-size-requires Inv-loop μ-loop
 component-size-requires c κs = search needs
@@ -45,7 +50,7 @@ empty-requires : tie.Need-empty-requires Inv-loop μ-loop
 empty-requires c κs = search needs
 
 loop-holds : tie.Need-loop-holds Inv-loop μ-loop
-unfolding rankOf
+unfolding rankOf inOrder
 loop-holds c =
     let e = c .empty .ensures in
     let k = c .before .before .before .before .before .before .args .k in (
@@ -55,6 +60,8 @@ loop-holds c =
       rw e (omega (arith, empty-checked k)),
       rw e (sound-empty k (c .before .before .before .before .before .before .pre .k-high)),
       rw (e, walk-start),
+      λ q l. absurd (omega arith),
+      rw (e, entries-none k),
     )
 
 next-requires : tie.Need-next-requires Inv-loop μ-loop
@@ -93,77 +100,123 @@ returns c =
     ∙ no-mark (a .marks .now) (a .ids .now) (similarityOf (a .mode) (a .vectors .now) (a .target .now)) (c .before .before .before .before .before .before .before .loop .set) (c .before .before .before .before .before .before .before .loop .at) _ (got (c .before .before .before)) (sym (c .before .before .vector-exists .ensures) ∙ not-true _ (c .before .if1 .taken))
     ∙ c .before .before .before .before .before .before .before .loop .inv .5
 
+mul-squares : tie.Need-mul-squares Inv-loop μ-loop
+mul-squares c = omega (arith, room (c .before .before), c .before .before .before .before .before .before .before .before .before .before .before .before .before .good)
+
+squares-requires : tie.Need-squares-requires Inv-loop μ-loop
+squares-requires c κs = omega (arith, room (c .before .before), size (c .before .before))
+
+bits-of-requires : tie.Need-bits-of-requires Inv-loop μ-loop
+bits-of-requires c κs = search needs
+
+add-at : tie.Need-add-at Inv-loop μ-loop
+add-at c = omega (arith, low (c .before .before .before .before))
+
+add-set : tie.Need-add-set Inv-loop μ-loop
+add-set c = omega (arith, c .before .before .before .before .before .before .before .before .before .loop .inv .3, c .before .before .before .before .before .before .before .before .before .loop .inv .0, c .before .before .before .before .before .before .before .before .before .before .before .before .before .before .before .before .pre .set)
+
+loop-less : tie.Need-loop-less Inv-loop μ-loop
+loop-less c = omega (arith, got (c .before .before .before .before .before) .0, got (c .before .before .before .before .before) .1)
+
+-- a candidate below the bar: it is counted, which is what feeding it comes to
+loop-again : tie.Need-loop-again Inv-loop μ-loop
+loop-again c =
+    let a = c .before .before .before .before .before .before .before .before .before .before .before .before .before .before .before .before .args in
+    let f = similarityOf (a .mode) (a .vectors .now) (a .target .now) in
+    let i : ℕ = c .before .before .before .before .before .before .id .given .0 .0 in
+    let cur : ResultSet = c .before .before .before .before .before .before .before .before .before .loop .set in
+    let rt : root (c .before .before .squares .result) ≡ f i = score-is (a .mode) (a .vectors .now) (a .target .now) i _ _ (size (c .before .before .before .before .before)) (c .before .before .squares .ensures) in
+    let shut : fullAbove (cur .len) (cur .k) (cur .sims) (f i) ≡ true = ap (fullAbove (cur .len) (cur .k) (cur .sims)) (sym rt) ∙ bar-closes (cur .len) (cur .k) (cur .sims) (c .before .before .before .before .before .before .before .before .before .loop .bar) _ _ (c .before .before .before .before .before .before .before .before .before .loop .inv .6) (c .before .bits-of .ensures) (c .if2 .taken) in
+    let n : isNan (f i) ≡ false = closed-number (cur .len) (cur .k) (cur .sims) (f i) shut in
+    let new : counted cur ≡ fedSet cur (scored f i) = closed-counted cur (scored f i) (c .before .before .before .before .before .before .before .before .before .loop .inv .4) shut in
+    let again = one-fed (a .marks .now) (a .ids .now) f cur (c .before .before .before .before .before .before .before .before .before .loop .at) i (got (c .before .before .before .before .before)) (sym (c .before .before .before .before .vector-exists .ensures) ∙ not-false _ (c .before .before .before .if1 .left)) n in (
+      omega (arith, got (c .before .before .before .before .before) .1),
+      c .before .before .before .before .before .before .before .before .before .loop .inv .1,
+      c .before .before .before .before .before .before .before .before .before .loop .inv .2,
+      omega (arith, c .before .before .before .before .before .before .before .before .before .loop .inv .3, got (c .before .before .before .before .before) .0),
+      subst Sound (sym new) (sound-fed cur (scored f i) (c .before .before .before .before .before .before .before .before .before .loop .inv .4) n),
+      ap (λ (t : ResultSet). ranking (a .marks .now) f t (idsFrom (a .ids .now) (i + 1))) new ∙ again ∙ c .before .before .before .before .before .before .before .before .before .loop .inv .5,
+      c .before .before .before .before .before .before .before .before .before .loop .inv .6,
+      subst (λ (t : ResultSet). inOrder larger (entriesOf t) ≡ true) (sym new) (order-fed cur (scored f i) (c .before .before .before .before .before .before .before .before .before .loop .inv .7)),
+    )
+
 compute-similarity-requires : tie.Need-compute-similarity-requires Inv-loop μ-loop
-compute-similarity-requires c κs = (size (c .before .before), room (c .before .before))
+compute-similarity-requires c κs = search needs
 
 refuse-requires-2 : tie.Need-refuse-requires-2 Inv-loop μ-loop
 refuse-requires-2 c κs = search needs
 
 returns-2 : tie.Need-returns-2 Inv-loop μ-loop
 returns-2 c =
-    let a = c .before .before .before .before .before .before .before .before .before .before .before .before .before .before .before .before .args in
+    let a = c .before .before .before .before .before .before .before .before .before .before .before .before .before .before .before .before .before .before .before .args in
     let f = similarityOf (a .mode) (a .vectors .now) (a .target .now) in
-    let n : isNan (f (c .before .before .before .before .before .before .id .given .0 .0)) ≡ true = ap isNan (sym (c .before .before .compute-similarity .ensures)) ∙ is-nan _ (c .before .if2 .taken) in
+    let sc : c .before .before .compute-similarity .result ≡ f (c .before .before .before .before .before .before .before .before .before .id .given .0 .0) = c .before .before .compute-similarity .ensures ∙ score-is (a .mode) (a .vectors .now) (a .target .now) (c .before .before .before .before .before .before .before .before .before .id .given .0 .0) _ _ (size (c .before .before .before .before .before .before .before .before)) (c .before .before .before .before .before .squares .ensures) in
+    let n : isNan (f (c .before .before .before .before .before .before .before .before .before .id .given .0 .0)) ≡ true = ap isNan (sym sc) ∙ is-nan _ (c .before .if3 .taken) in
     c .refuse2 .ensures
-    ∙ bad-score (a .marks .now) (a .ids .now) f (c .before .before .before .before .before .before .before .before .before .loop .set) (c .before .before .before .before .before .before .before .before .before .loop .at) _ (got (c .before .before .before .before .before)) (sym (c .before .before .before .before .vector-exists .ensures) ∙ not-false _ (c .before .before .before .if1 .left)) n
-    ∙ c .before .before .before .before .before .before .before .before .before .loop .inv .5
-
-add-at : tie.Need-add-at Inv-loop μ-loop
-add-at c = omega (arith, low (c .before .before .before .before))
+    ∙ bad-score (a .marks .now) (a .ids .now) f (c .before .before .before .before .before .before .before .before .before .before .before .before .loop .set) (c .before .before .before .before .before .before .before .before .before .before .before .before .loop .at) _ (got (c .before .before .before .before .before .before .before .before)) (sym (c .before .before .before .before .before .before .before .vector-exists .ensures) ∙ not-false _ (c .before .before .before .before .before .before .if1 .left)) n
+    ∙ c .before .before .before .before .before .before .before .before .before .before .before .before .loop .inv .5
 
 closed-to-requires : tie.Need-closed-to-requires Inv-loop μ-loop
-closed-to-requires c κs = omega (arith, c .before .before .before .before .before .before .before .before .before .before .before .loop .inv .1, c .before .before .before .before .before .before .before .before .before .before .before .loop .inv .2, c .before .before .before .before .before .before .before .before .before .before .before .loop .inv .4 .sims-long)
+closed-to-requires c κs = omega (arith, c .before .before .before .before .before .before .before .before .before .before .before .before .before .before .loop .inv .1, c .before .before .before .before .before .before .before .before .before .before .before .before .before .before .loop .inv .2, c .before .before .before .before .before .before .before .before .before .before .before .before .before .before .loop .inv .4 .sims-long)
 
-add-set : tie.Need-add-set Inv-loop μ-loop
-add-set c = omega (arith, c .before .before .before .before .before .before .before .before .before .before .before .before .before .loop .inv .3, c .before .before .before .before .before .before .before .before .before .before .before .before .before .loop .inv .0, c .before .before .before .before .before .before .before .before .before .before .before .before .before .before .before .before .before .before .before .before .pre .set)
+add-set-2 : tie.Need-add-set-2 Inv-loop μ-loop
+add-set-2 c = omega (arith, c .before .before .before .before .before .before .before .before .before .before .before .before .before .before .before .before .loop .inv .3, c .before .before .before .before .before .before .before .before .before .before .before .before .before .before .before .before .loop .inv .0, c .before .before .before .before .before .before .before .before .before .before .before .before .before .before .before .before .before .before .before .before .before .before .before .pre .set)
 
-loop-less : tie.Need-loop-less Inv-loop μ-loop
-loop-less c = omega (arith, got (c .before .before .before .before .before .before .before .before .before) .0, got (c .before .before .before .before .before .before .before .before .before) .1)
+loop-less-2 : tie.Need-loop-less-2 Inv-loop μ-loop
+loop-less-2 c = omega (arith, got (c .before .before .before .before .before .before .before .before .before .before .before .before) .0, got (c .before .before .before .before .before .before .before .before .before .before .before .before) .1)
 
--- a candidate that the full list is closed to: it is counted, which is what feeding it comes to
-loop-again : tie.Need-loop-again Inv-loop μ-loop
-loop-again c =
-    let a = c .before .before .before .before .before .before .before .before .before .before .before .before .before .before .before .before .before .before .before .before .args in
+-- a candidate that the full list is closed to: it is counted too, and the bar rises to it
+loop-again-2 : tie.Need-loop-again-2 Inv-loop μ-loop
+loop-again-2 c =
+    let a = c .before .before .before .before .before .before .before .before .before .before .before .before .before .before .before .before .before .before .before .before .before .before .before .args in
     let f = similarityOf (a .mode) (a .vectors .now) (a .target .now) in
-    let i : ℕ = c .before .before .before .before .before .before .before .before .before .before .id .given .0 .0 in
-    let cur : ResultSet = c .before .before .before .before .before .before .before .before .before .before .before .before .before .loop .set in
-    let sc : c .before .before .before .before .before .before .compute-similarity .result ≡ f i = c .before .before .before .before .before .before .compute-similarity .ensures in
-    let n : isNan (f i) ≡ false = ap isNan (sym sc) ∙ no-nan _ (c .before .before .before .before .before .if2 .left) in
-    let new : counted cur ≡ fedSet cur (scored f i) = closed-counted cur (entry i (c .before .before .before .before .before .before .compute-similarity .result)) (c .before .before .before .before .before .before .before .before .before .before .before .before .before .loop .inv .4) (sym (c .before .closed-to .ensures) ∙ c .if3 .taken) ∙ ap (λ (x : Float). fedSet cur (entry i x)) sc in
-    let again = one-fed (a .marks .now) (a .ids .now) f cur (c .before .before .before .before .before .before .before .before .before .before .before .before .before .loop .at) i (got (c .before .before .before .before .before .before .before .before .before)) (sym (c .before .before .before .before .before .before .before .before .vector-exists .ensures) ∙ not-false _ (c .before .before .before .before .before .before .before .if1 .left)) n in (
-      omega (arith, got (c .before .before .before .before .before .before .before .before .before) .1),
-      c .before .before .before .before .before .before .before .before .before .before .before .before .before .loop .inv .1,
-      c .before .before .before .before .before .before .before .before .before .before .before .before .before .loop .inv .2,
-      omega (arith, c .before .before .before .before .before .before .before .before .before .before .before .before .before .loop .inv .3, got (c .before .before .before .before .before .before .before .before .before) .0),
-      subst Sound (sym new) (sound-fed cur (scored f i) (c .before .before .before .before .before .before .before .before .before .before .before .before .before .loop .inv .4) n),
-      ap (λ (t : ResultSet). ranking (a .marks .now) f t (idsFrom (a .ids .now) (i + 1))) new ∙ again ∙ c .before .before .before .before .before .before .before .before .before .before .before .before .before .loop .inv .5,
+    let i : ℕ = c .before .before .before .before .before .before .before .before .before .before .before .before .before .id .given .0 .0 in
+    let cur : ResultSet = c .before .before .before .before .before .before .before .before .before .before .before .before .before .before .before .before .loop .set in
+    let rt : root (c .before .before .before .before .before .before .before .before .before .squares .result) ≡ f i = score-is (a .mode) (a .vectors .now) (a .target .now) i _ _ (size (c .before .before .before .before .before .before .before .before .before .before .before .before)) (c .before .before .before .before .before .before .before .before .before .squares .ensures) in
+    let sc : c .before .before .before .before .before .before .compute-similarity .result ≡ f i = c .before .before .before .before .before .before .compute-similarity .ensures ∙ rt in
+    let n : isNan (f i) ≡ false = ap isNan (sym sc) ∙ no-nan _ (c .before .before .before .before .before .if3 .left) in
+    let shut : fullAbove (cur .len) (cur .k) (cur .sims) (c .before .before .before .before .before .before .compute-similarity .result) ≡ true = sym (c .before .closed-to .ensures) ∙ c .if4 .taken in
+    let new : counted cur ≡ fedSet cur (scored f i) = closed-counted cur (entry i (c .before .before .before .before .before .before .compute-similarity .result)) (c .before .before .before .before .before .before .before .before .before .before .before .before .before .before .before .before .loop .inv .4) shut ∙ ap (λ (x : Float). fedSet cur (entry i x)) sc in
+    let again = one-fed (a .marks .now) (a .ids .now) f cur (c .before .before .before .before .before .before .before .before .before .before .before .before .before .before .before .before .loop .at) i (got (c .before .before .before .before .before .before .before .before .before .before .before .before)) (sym (c .before .before .before .before .before .before .before .before .before .before .before .vector-exists .ensures) ∙ not-false _ (c .before .before .before .before .before .before .before .before .before .before .if1 .left)) n in (
+      omega (arith, got (c .before .before .before .before .before .before .before .before .before .before .before .before) .1),
+      c .before .before .before .before .before .before .before .before .before .before .before .before .before .before .before .before .loop .inv .1,
+      c .before .before .before .before .before .before .before .before .before .before .before .before .before .before .before .before .loop .inv .2,
+      omega (arith, c .before .before .before .before .before .before .before .before .before .before .before .before .before .before .before .before .loop .inv .3, got (c .before .before .before .before .before .before .before .before .before .before .before .before) .0),
+      subst Sound (sym new) (sound-fed cur (scored f i) (c .before .before .before .before .before .before .before .before .before .before .before .before .before .before .before .before .loop .inv .4) n),
+      ap (λ (t : ResultSet). ranking (a .marks .now) f t (idsFrom (a .ids .now) (i + 1))) new ∙ again ∙ c .before .before .before .before .before .before .before .before .before .before .before .before .before .before .before .before .loop .inv .5,
+      bar-raised (cur .len) (cur .k) (cur .sims) _ _ (c .before .before .before .before .before .before .before .before .bits-of .ensures) (omega arith) (ap (fullAbove (cur .len) (cur .k) (cur .sims)) (sym (c .before .before .before .before .before .before .compute-similarity .ensures)) ∙ shut),
+      subst (λ (t : ResultSet). inOrder larger (entriesOf t) ≡ true) (sym new) (order-fed cur (scored f i) (c .before .before .before .before .before .before .before .before .before .before .before .before .before .before .before .before .loop .inv .7)),
     )
 
 cast-ranked : tie.Need-cast-ranked Inv-loop μ-loop
-cast-ranked c = omega (arith, low (c .before .before .before .before .before .before .before .before .before))
+cast-ranked c = omega (arith, low (c .before .before .before .before .before .before .before .before .before .before .before .before))
 
 ranked-requires : tie.Need-ranked-requires Inv-loop μ-loop
-ranked-requires c κs = ((c .before .before .before .before .before .before .before .before .before .before .before .before .before .loop .inv .1, c .before .before .before .before .before .before .before .before .before .before .before .before .before .loop .inv .2), omega (arith, c .before .before .before .before .before .before .before .before .before .before .before .before .before .loop .inv .3, c .before .before .before .before .before .before .before .before .before .before .before .before .before .loop .inv .0, c .before .before .before .before .before .before .before .before .before .before .before .before .before .before .before .before .before .before .before .before .pre .set))
+ranked-requires c κs = ((c .before .before .before .before .before .before .before .before .before .before .before .before .before .before .before .before .loop .inv .1, c .before .before .before .before .before .before .before .before .before .before .before .before .before .before .before .before .loop .inv .2), omega (arith, c .before .before .before .before .before .before .before .before .before .before .before .before .before .before .before .before .loop .inv .3, c .before .before .before .before .before .before .before .before .before .before .before .before .before .before .before .before .loop .inv .0, c .before .before .before .before .before .before .before .before .before .before .before .before .before .before .before .before .before .before .before .before .before .before .before .pre .set))
 
-loop-less-2 : tie.Need-loop-less-2 Inv-loop μ-loop
-loop-less-2 c = omega (arith, got (c .before .before .before .before .before .before .before .before .before .before) .0, got (c .before .before .before .before .before .before .before .before .before .before) .1)
+loop-less-3 : tie.Need-loop-less-3 Inv-loop μ-loop
+loop-less-3 c = omega (arith, got (c .before .before .before .before .before .before .before .before .before .before .before .before .before) .0, got (c .before .before .before .before .before .before .before .before .before .before .before .before .before) .1)
 
-loop-again-2 : tie.Need-loop-again-2 Inv-loop μ-loop
-loop-again-2 c =
-    let a = c .before .before .before .before .before .before .before .before .before .before .before .before .before .before .before .before .before .before .before .before .before .args in
+-- a candidate that is fed: what the list was closed to, it stays closed to
+loop-again-3 : tie.Need-loop-again-3 Inv-loop μ-loop
+loop-again-3 c =
+    let a = c .before .before .before .before .before .before .before .before .before .before .before .before .before .before .before .before .before .before .before .before .before .before .before .before .args in
     let f = similarityOf (a .mode) (a .vectors .now) (a .target .now) in
-    let i : ℕ = c .before .before .before .before .before .before .before .before .before .before .before .id .given .0 .0 in
-    let cur : ResultSet = c .before .before .before .before .before .before .before .before .before .before .before .before .before .before .loop .set in
-    let sc : c .before .before .before .before .before .before .before .compute-similarity .result ≡ f i = c .before .before .before .before .before .before .before .compute-similarity .ensures in
-    let n : isNan (f i) ≡ false = ap isNan (sym sc) ∙ no-nan _ (c .before .before .before .before .before .before .if2 .left) in
+    let i : ℕ = c .before .before .before .before .before .before .before .before .before .before .before .before .before .before .id .given .0 .0 in
+    let cur : ResultSet = c .before .before .before .before .before .before .before .before .before .before .before .before .before .before .before .before .before .loop .set in
+    let rt : root (c .before .before .before .before .before .before .before .before .before .before .squares .result) ≡ f i = score-is (a .mode) (a .vectors .now) (a .target .now) i _ _ (size (c .before .before .before .before .before .before .before .before .before .before .before .before .before)) (c .before .before .before .before .before .before .before .before .before .before .squares .ensures) in
+    let sc : c .before .before .before .before .before .before .before .compute-similarity .result ≡ f i = c .before .before .before .before .before .before .before .compute-similarity .ensures ∙ rt in
+    let n : isNan (f i) ≡ false = ap isNan (sym sc) ∙ no-nan _ (c .before .before .before .before .before .before .if3 .left) in
     let new : c .ranked .result ≡ fedSet cur (scored f i) = c .ranked .ensures ∙ ap (λ (x : Float). fedSet cur (entry i x)) sc in
-    let again = one-fed (a .marks .now) (a .ids .now) f cur (c .before .before .before .before .before .before .before .before .before .before .before .before .before .before .loop .at) i (got (c .before .before .before .before .before .before .before .before .before .before)) (sym (c .before .before .before .before .before .before .before .before .before .vector-exists .ensures) ∙ not-false _ (c .before .before .before .before .before .before .before .before .if1 .left)) n in (
-      omega (arith, got (c .before .before .before .before .before .before .before .before .before .before) .1),
-      rw (new, fed-k cur (scored f i)) (fed-within cur (scored f i) (c .before .before .before .before .before .before .before .before .before .before .before .before .before .before .loop .inv .1)),
-      rw (new, fed-k cur (scored f i)) (c .before .before .before .before .before .before .before .before .before .before .before .before .before .before .loop .inv .2),
-      rw (new, fed-checked cur (scored f i)) (omega (arith, c .before .before .before .before .before .before .before .before .before .before .before .before .before .before .loop .inv .3, got (c .before .before .before .before .before .before .before .before .before .before) .0)),
-      rw new (sound-fed cur (scored f i) (c .before .before .before .before .before .before .before .before .before .before .before .before .before .before .loop .inv .4) n),
-      rw new (again ∙ c .before .before .before .before .before .before .before .before .before .before .before .before .before .before .loop .inv .5),
+    let again = one-fed (a .marks .now) (a .ids .now) f cur (c .before .before .before .before .before .before .before .before .before .before .before .before .before .before .before .before .before .loop .at) i (got (c .before .before .before .before .before .before .before .before .before .before .before .before .before)) (sym (c .before .before .before .before .before .before .before .before .before .before .before .before .vector-exists .ensures) ∙ not-false _ (c .before .before .before .before .before .before .before .before .before .before .before .if1 .left)) n in (
+      omega (arith, got (c .before .before .before .before .before .before .before .before .before .before .before .before .before) .1),
+      rw (new, fed-k cur (scored f i)) (fed-within cur (scored f i) (c .before .before .before .before .before .before .before .before .before .before .before .before .before .before .before .before .before .loop .inv .1)),
+      rw (new, fed-k cur (scored f i)) (c .before .before .before .before .before .before .before .before .before .before .before .before .before .before .before .before .before .loop .inv .2),
+      rw (new, fed-checked cur (scored f i)) (omega (arith, c .before .before .before .before .before .before .before .before .before .before .before .before .before .before .before .before .before .loop .inv .3, got (c .before .before .before .before .before .before .before .before .before .before .before .before .before) .0)),
+      rw new (sound-fed cur (scored f i) (c .before .before .before .before .before .before .before .before .before .before .before .before .before .before .before .before .before .loop .inv .4) n),
+      rw new (again ∙ c .before .before .before .before .before .before .before .before .before .before .before .before .before .before .before .before .before .loop .inv .5),
+      λ q l. rw new (closed-stays cur (scored f i) (ofBits binary32 (rootOf q)) (c .before .before .before .before .before .before .before .before .before .before .before .before .before .before .before .before .before .loop .inv .4) (c .before .before .before .before .before .before .before .before .before .before .before .before .before .before .before .before .before .loop .inv .7) n (c .before .before .before .before .before .before .before .before .before .before .before .before .before .before .before .before .before .loop .inv .6 q l)),
+      rw new (order-fed cur (scored f i) (c .before .before .before .before .before .before .before .before .before .before .before .before .before .before .before .before .before .loop .inv .7)),
     )
 
 enum-told : tie.Need-enum-told Inv-loop μ-loop
@@ -190,17 +243,23 @@ rank-spec =
     vector-exists-requires
     refuse-requires
     returns
-    compute-similarity-requires
-    refuse-requires-2
-    returns-2
+    mul-squares
+    squares-requires
+    bits-of-requires
     add-at
-    closed-to-requires
     add-set
     loop-less
     loop-again
-    cast-ranked
-    ranked-requires
+    compute-similarity-requires
+    refuse-requires-2
+    returns-2
+    closed-to-requires
+    add-set-2
     loop-less-2
     loop-again-2
+    cast-ranked
+    ranked-requires
+    loop-less-3
+    loop-again-3
     enum-told
     returns-3)

@@ -83,10 +83,14 @@ pub fn rank(
     ensures { λ r. ⌜ r ≡ rankOf mode k (now (ids .entry)) (now (marks .entry)) (now (vectors .entry)) (now (target .entry)) ⌝ }
 {
     let slot = paper::component_size(mode) * target.len();
-    let mut set = ResultSet::empty(k);
+    // the list in its parts, so that no set is moved about
+    let mut list = [0u32; 256];
+    let mut sims = [0.0f32; 256];
+    let mut len = 0;
+    let mut checked: u32 = 0;
     let mut at = 0;
-    // Most candidates meet a full list with a greater last score: they are only counted, and the set stays where it is. Every sum whose bits are below
-    // `bar` has such a root, since a smaller sum has no greater root and the last score never falls; so that root is not taken.
+    // Most candidates meet a full list with a greater last score: they are only counted. Every sum whose bits are below `bar` has such a root, since a
+    // smaller sum has no greater root and the last score never falls; so that root is not taken.
     let mut bar: u32 = 0;
     loop {
         match bitmaps::inner::next(ids, at) {
@@ -97,22 +101,34 @@ pub fn rank(
                 let sum = squares(vectors, target, mode, id * slot);
                 let bits = sqrt::bits_of(sum);
                 at = id + 1;
-                if bits < bar {
-                    set.checked += 1;
-                } else {
+                checked += 1;
+                if bits >= bar {
                     let similarity = compute_similarity(sum);
                     if similarity != similarity {
                         return refuse(paper::NAN_SCORE);
                     }
-                    if result::inner::closed_to(&set.sims, set.len, set.k, similarity) {
-                        set.checked += 1;
+                    if result::inner::closed_to(&sims, len, k, similarity) {
                         bar = bits % SIGN;
                     } else {
-                        set = result::inner::ranked(set, id as u32, similarity);
+                        len = result::inner::insert(
+                            &mut list,
+                            &mut sims,
+                            len,
+                            k,
+                            id as u32,
+                            similarity,
+                        );
                     }
                 }
             }
             Found::Nothing => {
+                let set = ResultSet {
+                    ids: list,
+                    sims,
+                    len,
+                    k,
+                    checked,
+                };
                 return Fed { refusal: 0, set };
             }
         }

@@ -14,7 +14,7 @@ use Rattle.paper.proofs.Choice.{and-l, and-r}
 use Rattle.result.specs.Lists.{insertAt, allOf, isHeld, isBlank, isZero}
 use Rattle.result.specs.Ranked.{Entry, entry, larger, placed, lastBefore, stays, fed}
 use Rattle.result.specs.Places.{entries, put, Found, Within, fullAbove}
-use Rattle.result.specs.Puts.{putIn}
+use Rattle.result.specs.Puts.{putIn, setOf}
 use Rattle.result.specs.Sets.{wellFormed, entriesOf, holding, counted, fedSet, feedRefusal, feedOf, answer, emptySet, madeOf}
 use Rattle.result.specs.declared.ResultSet.{ResultSet}
 use Rattle.result.specs.declared.inner.Place.{Place}
@@ -87,6 +87,12 @@ module _ (s : ResultSet) (e : Entry) (hi : s .len ≤ length (s .ids)) (hs : s .
       → r ≡ putIn (counted s) (insertAt i e (entriesOf s)) → r ≡ fedSet s e
   unfolding fedSet fed
   fed-put i r b p q = rw (sym (set-stays s e hi hs) ∙ b) (q ∙ ap (λ (l : List Entry). putIn (counted s) l) p)
+
+-- the same arrays with another count: one more is counted, whatever the count was
+pub recount : (s : ResultSet) (e : Entry) (is : List ℕ) (ss : List Float) (n : ℕ)
+    → setOf is ss n (s .k) 1 ≡ fedSet (setOf (s .ids) (s .sims) (s .len) (s .k) 0) e → setOf is ss n (s .k) (s .checked + 1) ≡ fedSet s e
+unfolding fedSet entriesOf
+recount s e is ss n h = ap (λ (r : ResultSet). setOf (r .ids) (r .sims) (r .len) (r .k) (s .checked + 1)) h
 
 -- ---- a place that was found
 

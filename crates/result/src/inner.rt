@@ -5,9 +5,9 @@ ghost use Prim.Native.Nat.{_≤_, _<_};
 ghost use lib.ListN.{drop, take, length};
 ghost use Rattle.result.specs.Lists.{insertAt};
 ghost use Rattle.result.specs.Ranked.{entry};
-ghost use Rattle.result.specs.Places.{Found, fullAbove};
-ghost use Rattle.result.specs.Sets.{fedSet, entriesOf};
-ghost use Rattle.result.specs.Puts.{putIn};
+ghost use Rattle.result.specs.Places.{Found, entries, fullAbove};
+ghost use Rattle.result.specs.Sets.{fedSet};
+ghost use Rattle.result.specs.Puts.{putIn, setOf};
 use super::ResultSet;
 
 // Where a new entry goes: at a place, or nowhere, since its id is met first.
@@ -82,43 +82,72 @@ fn push_sim(sims: &mut [f32; 256], at: usize, to: usize, x: f32)
     }
 }
 
-// The set with the entry at a place of it, and the list cut to k.
-fn put(mut set: ResultSet, at: usize, id: u32, similarity: f32) -> ResultSet
-    requires { ⌜ (set .len ≤ set .k) × (set .k ≤ 256) ⌝ }
-    requires { ⌜ at ≤ set .len ⌝ }
-    ensures { λ r. ⌜ r ≡ putIn set (insertAt at (entry id similarity) (entriesOf set)) ⌝ }
+// The entry at a place of the list that two arrays hold, and the list cut to k. The answer is its length.
+fn put(
+    ids: &mut [u32; 256],
+    sims: &mut [f32; 256],
+    at: usize,
+    len: usize,
+    k: usize,
+    id: u32,
+    similarity: f32,
+) -> usize
+    requires { ⌜ (len ≤ k) × (k ≤ 256) × (at ≤ len) ⌝ }
+    requires { ⌜ (length (now ids) ≡ 256) × (length (now sims) ≡ 256) ⌝ }
+    ensures { λ r. ⌜ setOf (now (ids .exit)) (now (sims .exit)) r k 1 ≡ putIn (setOf (now (ids .entry)) (now (sims .entry)) len k 1) (insertAt at (entry id similarity) (entries len (now (ids .entry)) (now (sims .entry)))) ⌝ }
 {
-    let len = set.len;
-    let k = set.k;
     if len < k {
-        push_id(&mut set.ids, at, len + 1, id);
-        push_sim(&mut set.sims, at, len + 1, similarity);
-        set.len = len + 1;
-        return set;
+        push_id(ids, at, len + 1, id);
+        push_sim(sims, at, len + 1, similarity);
+        return len + 1;
     }
     if at < k {
-        push_id(&mut set.ids, at, k, id);
-        push_sim(&mut set.sims, at, k, similarity);
-        return set;
+        push_id(ids, at, k, id);
+        push_sim(sims, at, k, similarity);
+        return k;
     }
-    set
+    len
 }
 
-// The set after the entry, which is counted whether or not it is placed. Most candidates meet a full set with a greater last score, so that is
-// looked at first.
-pub fn ranked(mut set: ResultSet, id: u32, similarity: f32) -> ResultSet
+// Feeds the entry to the list that two arrays hold, and answers its length: so that a loop that feeds many candidates moves no set about. Most of them
+// meet a full list with a greater last score, so that is looked at first.
+pub fn insert(
+    ids: &mut [u32; 256],
+    sims: &mut [f32; 256],
+    len: usize,
+    k: usize,
+    id: u32,
+    similarity: f32,
+) -> usize
+    requires { ⌜ (len ≤ k) × (k ≤ 256) ⌝ }
+    requires { ⌜ (length (now ids) ≡ 256) × (length (now sims) ≡ 256) ⌝ }
+    ensures { λ r. ⌜ setOf (now (ids .exit)) (now (sims .exit)) r k 1 ≡ fedSet (setOf (now (ids .entry)) (now (sims .entry)) len k 0) (entry id similarity) ⌝ }
+{
+    if closed_to(sims, len, k, similarity) {
+        return len;
+    }
+    match place_of(ids, sims, len, id, similarity) {
+        Place::Held => len,
+        Place::At(at) => put(ids, sims, at, len, k, id, similarity),
+    }
+}
+
+// The set after the entry, which is counted whether or not it is placed.
+pub fn ranked(set: ResultSet, id: u32, similarity: f32) -> ResultSet
     requires { ⌜ (set .len ≤ set .k) × (set .k ≤ 256) ⌝ }
     requires { ⌜ set .checked < 4294967295 ⌝ }
     ensures { λ r. ⌜ r ≡ fedSet set (entry id similarity) ⌝ }
 {
-    let len = set.len;
     let k = set.k;
-    set.checked = set.checked + 1;
-    if closed_to(&set.sims, len, k, similarity) {
-        return set;
-    }
-    match place_of(&set.ids, &set.sims, len, id, similarity) {
-        Place::Held => set,
-        Place::At(at) => put(set, at, id, similarity),
+    let checked = set.checked + 1;
+    let mut ids = set.ids;
+    let mut sims = set.sims;
+    let len = insert(&mut ids, &mut sims, set.len, k, id, similarity);
+    ResultSet {
+        ids,
+        sims,
+        len,
+        k,
+        checked,
     }
 }

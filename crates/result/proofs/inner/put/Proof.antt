@@ -1,8 +1,11 @@
-use borrow.Author.Needs.{needs, length-unmapped}
-use mathlib.Core.Path.{_≡_, refl, _∙_}
+-- `result::inner::put` meets its contract. Assumes nothing.
+use borrow.Author.Needs.{needs}
+use mathlib.Core.Path.{refl, _∙_}
 use native.Mathlib.Omega.{arith}
-use lib.ListN.{length}
+use Prim.Native.Nat.{_+_}
 use Rattle.result.specs.Ranked.{entry}
+use Rattle.result.specs.Puts.{setOf}
+use Rattle.result.specs.Sets.{entriesOf}
 use Rattle.result.proofs.Puts.{shifts, put-room, put-full, put-none}
 use Rattle.result.proofs.inner.put.Statement.{statement}
 use Rattle.result.proofs.inner.put.Tie as tie
@@ -19,16 +22,18 @@ add-push-sim c = search needs
 push-sim-requires : tie.Need-push-sim-requires
 push-sim-requires c κs = search needs
 
-add-set : tie.Need-add-set
-add-set c = search needs
+add-result : tie.Need-add-result
+add-result c = search needs
 
 returns : tie.Need-returns
+unfolding entriesOf
 returns c =
-    let s = c .before .before .before .before .before .args .t1 in
-    let ni : length (s .ids) ≡ 256 = length-unmapped _ (s .ids) 256 (c .before .before .before .before .before .good .0 .1 .1 .0 .1 .0 .1) in
-    let ns : length (s .sims) ≡ 256 = length-unmapped _ (s .sims) 256 (c .before .before .before .before .before .good .0 .1 .1 .1 .0 .1 .0 .1) in
-    let e = entry (c .before .before .before .before .before .args .id) (c .before .before .before .before .before .args .similarity) in
-    shifts s (c .before .before .before .before .before .args .at) _ _ e _ _ (c .before .before .push-id .ensures) (c .push-sim .ensures) refl ∙ put-room s (omega arith) (omega arith) (c .before .before .before .before .before .args .at) e (omega arith) (c .before .before .before .before .if1 .taken)
+    let a = c .before .before .before .before .before .args in
+    let s = setOf (a .ids .now) (a .sims .now) (a .len) (a .k) 1 in
+    let e = entry (a .id) (a .similarity) in
+    let p = c .before .before .before .before .before .pre in
+    shifts s (a .at) (a .len + 1) (a .len + 1) e _ _ (c .before .before .push-id .ensures) (c .push-sim .ensures) refl
+    ∙ put-room s (omega (arith, p .0, p .1)) (omega (arith, p .0, p .1)) (a .at) e (p .0 .2) (c .before .before .before .before .if1 .taken)
 
 push-id-requires-2 : tie.Need-push-id-requires-2
 push-id-requires-2 c κs = search needs
@@ -37,20 +42,23 @@ push-sim-requires-2 : tie.Need-push-sim-requires-2
 push-sim-requires-2 c κs = search needs
 
 returns-2 : tie.Need-returns-2
+unfolding entriesOf
 returns-2 c =
-    let s = c .before .before .before .before .before .before .args .t1 in
-    let ni : length (s .ids) ≡ 256 = length-unmapped _ (s .ids) 256 (c .before .before .before .before .before .before .good .0 .1 .1 .0 .1 .0 .1) in
-    let ns : length (s .sims) ≡ 256 = length-unmapped _ (s .sims) 256 (c .before .before .before .before .before .before .good .0 .1 .1 .1 .0 .1 .0 .1) in
-    let e = entry (c .before .before .before .before .before .before .args .id) (c .before .before .before .before .before .before .args .similarity) in
-    shifts s (c .before .before .before .before .before .before .args .at) (s .k) (s .len) e _ _ (c .before .before .push-id2 .ensures) (c .push-sim2 .ensures) (omega arith) ∙ put-full s (omega arith) (omega arith) (c .before .before .before .before .before .before .args .at) e (omega arith) (omega arith)
+    let a = c .before .before .before .before .before .before .args in
+    let s = setOf (a .ids .now) (a .sims .now) (a .len) (a .k) 1 in
+    let e = entry (a .id) (a .similarity) in
+    let p = c .before .before .before .before .before .before .pre in
+    shifts s (a .at) (a .k) (a .k) e _ _ (c .before .before .push-id2 .ensures) (c .push-sim2 .ensures) refl
+    ∙ put-full s (omega (arith, p .0, p .1)) (omega (arith, p .0, p .1)) (a .at) e (p .0 .2) (omega (arith, p .0, c .before .before .before .before .before .if1 .left))
 
 returns-3 : tie.Need-returns-3
+unfolding entriesOf
 returns-3 c =
-    let s = c .before .before .args .t1 in
-    let ni : length (s .ids) ≡ 256 = length-unmapped _ (s .ids) 256 (c .before .before .good .0 .1 .1 .0 .1 .0 .1) in
-    let ns : length (s .sims) ≡ 256 = length-unmapped _ (s .sims) 256 (c .before .before .good .0 .1 .1 .1 .0 .1 .0 .1) in
-    let e = entry (c .before .before .args .id) (c .before .before .args .similarity) in
-    put-none s (omega arith) (omega arith) (c .before .before .args .at) e (omega arith) (omega arith) (omega arith)
+    let a = c .before .before .args in
+    let s = setOf (a .ids .now) (a .sims .now) (a .len) (a .k) 1 in
+    let e = entry (a .id) (a .similarity) in
+    let p = c .before .before .pre in
+    put-none s (omega (arith, p .0, p .1)) (omega (arith, p .0, p .1)) (a .at) e (p .0 .2) (omega (arith, p .0, c .before .if1 .left)) (omega (arith, p .0, c .before .if1 .left, c .if2 .left))
 
 pub put-spec : {M : Type 1} → statement M
 put-spec =
@@ -60,7 +68,7 @@ put-spec =
     push-id-requires
     add-push-sim
     push-sim-requires
-    add-set
+    add-result
     returns
     push-id-requires-2
     push-sim-requires-2

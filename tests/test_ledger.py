@@ -1,0 +1,87 @@
+"""Holds docs/PROMISES.md, the header and the crates to each other: no public call is left out, and no edit is named that is not there."""
+import pathlib
+import re
+import subprocess
+import unittest
+
+ROOT = pathlib.Path(__file__).resolve().parent.parent
+LEDGER = (ROOT / "docs" / "PROMISES.md").read_text(encoding="utf-8")
+
+
+def listed_crates():
+    for line in (ROOT / "crates.txt").read_text(encoding="utf-8").splitlines():
+        line = line.split("#")[0].strip()
+        if line:
+            yield line.split(":")[0]
+
+
+def edits():
+    return {p.stem for c in listed_crates() for p in (ROOT / "crates" / c / "must-fail").glob("*.edit")}
+
+
+def public_calls():
+    """Every `pub` function of a library outside a module `inner`, as (crate, name)."""
+    for crate in listed_crates():
+        source = ROOT / "crates" / crate / "src" / "lib.rt"
+        if source.exists():
+            for name in re.findall(r'^\s*pub (?:extern "C" )?fn (\w+)', source.read_text(encoding="utf-8"), re.M):
+                yield crate, name
+
+
+def rows():
+    """The rows of the ledger's tables of calls: the call's name, and the edits named in the last column."""
+    for line in LEDGER.splitlines():
+        cells = [cell.strip() for cell in line.strip().strip("|").split(" | ")]
+        call = re.match(r"`(?:\w+::)*(\w+)`", cells[0])
+        if line.startswith("| `") and call and len(cells) == 5:
+            yield call.group(1), re.findall(r"\w+(?:-\w+)?", cells[4])
+
+
+class Ledger(unittest.TestCase):
+    def test_every_public_call_has_a_row(self):
+        told = {name for name, _ in rows()}
+        self.assertEqual([], [f"{crate}::{name}" for crate, name in public_calls() if name not in told])
+
+    def test_every_row_names_two_edits_that_exist(self):
+        there = edits()
+        for name, words in rows():
+            with self.subTest(call=name):
+                self.assertGreaterEqual(len({word for word in words if word in there}), 2)
+
+    def test_every_edit_is_in_the_ledger(self):
+        words = set(re.findall(r"\w+(?:-\w+)?", LEDGER))
+        self.assertEqual([], sorted(edits() - words))
+
+    def test_every_edit_of_the_ledger_exists(self):
+        there = edits()
+        named = {word for word in re.findall(r"\b[a-z]\w*-\w+", LEDGER) if "_" in word.split("-")[1]}
+        self.assertEqual([], sorted(named - there))
+
+
+class Header(unittest.TestCase):
+    def test_declares_just_the_exports(self):
+        header = (ROOT / "c" / "bbqvec.h").read_text(encoding="utf-8")
+        declared = set(re.findall(r"^\w+ (bbq_\w+)\(", header, re.M))
+        exported = {name for crate, name in public_calls() if crate.startswith("capi_")}
+        self.assertEqual(exported, declared)
+
+
+class Library(unittest.TestCase):
+    def run_it(self, *words):
+        return subprocess.run([ROOT / "tools" / "library", *words], cwd=ROOT, capture_output=True, text=True)
+
+    def test_wrong_use_is_told(self):
+        for words in ([], ["one.o", "two.o"], ["port.so"]):
+            with self.subTest(words=words):
+                done = self.run_it(*words)
+                self.assertEqual(2, done.returncode)
+                self.assertEqual(1, len(done.stderr.splitlines()))
+
+    def test_names_every_crate_of_calls(self):
+        text = (ROOT / "tools" / "library").read_text(encoding="utf-8")
+        joined = re.search(r"^crates='([^']*)'", text, re.M).group(1).split()
+        self.assertEqual(sorted(c for c in listed_crates() if c.startswith("capi_")), sorted(joined))
+
+
+if __name__ == "__main__":
+    unittest.main()

@@ -6,41 +6,7 @@ use bbqvec::backend::BackendInfo;
 use bbqvec::doors::{store::VectorStore, Quantization};
 use bbqvec::{BF16Quantization, Basis, BitVec, Bitmap, NoQuantization, QuantizedMemoryBackend, ResultSet, RoaringBitmap, Vector, VectorBackend, ID};
 
-/// A backend that answers load_bases; all else is the inner one's.
-struct Given<Q: Quantization> {
-    inner: QuantizedMemoryBackend<Q>,
-    bases: Vec<Basis>,
-}
-
-impl<Q: Quantization> VectorBackend for Given<Q> {
-    fn put_vector(&mut self, id: ID, v: &Vector) -> Result<()> {
-        self.inner.put_vector(id, v)
-    }
-    fn compute_similarity(&self, target: &Vector, target_id: ID) -> Result<f32> {
-        self.inner.compute_similarity(target, target_id)
-    }
-    fn info(&self) -> BackendInfo {
-        self.inner.info()
-    }
-    fn iter_vector_ids(&self) -> impl Iterator<Item = ID> {
-        self.inner.iter_vector_ids()
-    }
-    fn vector_exists(&self, id: ID) -> bool {
-        self.inner.vector_exists(id)
-    }
-    fn close(self) -> Result<()> {
-        self.inner.close()
-    }
-    fn find_nearest(&self, target: &Vector, k: usize) -> Result<ResultSet> {
-        self.inner.find_nearest(target, k)
-    }
-    fn load_bases(&self) -> Result<Option<Vec<Basis>>> {
-        Ok(Some(self.bases.clone()))
-    }
-    fn load_bitmap<B: Bitmap>(&mut self, basis: usize, index: i32) -> Result<Option<B>> {
-        self.inner.load_bitmap(basis, index)
-    }
-}
+include!("../../oracle/judge/src/given.rs");
 
 /// Vectors first, then the store around them.
 struct Filling<Q: Quantization> {
@@ -48,7 +14,7 @@ struct Filling<Q: Quantization> {
     roaring: bool,
 }
 
-struct Store<Q: Quantization, B: Bitmap>(VectorStore<Given<Q>, B>);
+struct Store<Q: Quantization, B: Bitmap>(VectorStore<Given<QuantizedMemoryBackend<Q>>, B>);
 
 impl<Q: Quantization + 'static> Filler for Filling<Q> {
     fn put(&mut self, id: u64, v: &Vec<f32>) {
@@ -68,7 +34,7 @@ impl<Q: Quantization + 'static> Filler for Filling<Q> {
 }
 
 fn filled<Q: Quantization + 'static, B: Bitmap + 'static>(
-    mut store: VectorStore<Given<Q>, B>, d: usize, n: usize, sets: &mut dyn FnMut(usize, i32) -> Vec<u64>,
+    mut store: VectorStore<Given<QuantizedMemoryBackend<Q>>, B>, d: usize, n: usize, sets: &mut dyn FnMut(usize, i32) -> Vec<u64>,
 ) -> Box<dyn Contender> {
     for b in 0..n {
         for f in (1..=d as i32).flat_map(|f| [f, -f]) {

@@ -17,7 +17,7 @@ enum Place {
 }
 
 // Whether a list of len is full and its last score is greater than the new one. A loop that feeds many candidates may ask this first, and then
-// need only raise checked: so it moves no set about for the entries that change nothing else.
+// need only raise checked; what the list is closed to once, it stays closed to.
 pub fn closed_to(sims: &[f32], len: usize, k: usize, similarity: f32) -> bool
     requires { ⌜ len ≤ length (now sims) ⌝ }
     ensures { λ r. ⌜ r ≡ fullAbove len k (now (sims .entry)) similarity ⌝ }

@@ -4,11 +4,12 @@ use mathlib.Core.Path.{_≡_, refl, sym, ap, _∙_}
 use mathlib.Core.Bool.{Bool, true, false}
 use mathlib.Core.List.{List, [], _∷_}
 use Prim.Native.Nat.{ℕ, suc, zero, _+_, _*_, _≤_, _<_}
-use native.Mathlib.Nat.{zero-mul, mul-right-comm, mul-pos, mul-le-mul-right, le-of-mul-le-mul-right, le-trans, not-suc-le-zero, le-of-suc-le-suc}
+use native.Mathlib.Nat.{zero-mul, mul-pos, not-suc-le-zero, le-of-suc-le-suc}
 use native.Mathlib.Omega.{arith}
 use borrow.Author.Tests.{ltb-false, le-ltb, not-true}
 use lib.Ieee.{Float, nan, inf, fin, up, down, lt, below, isNan}
 use lib.Ieee.Fits.{down-pos}
+use lib.Ieee.Positive as Positive
 use lib.ListN.{length, getD}
 use Rattle.paper.proofs.Choice.{and-l, and-r}
 use Rattle.result.specs.Lists.{allOf, isHeld}
@@ -40,13 +41,6 @@ module _ (before : Float → Float → Bool) (through : (x y z : Float) → isHe
 
 -- ---- the order of floats goes through any but NaN
 
--- fractions a / p, b / q and c / r
-module _ (a b c p q r : ℕ) (Q : 0 < q) where
-  cross : a * q ≤ b * p → b * r ≤ c * q → a * r ≤ c * p
-  cross h k =
-      le-of-mul-le-mul-right {k = q}
-      (rw (mul-right-comm a r q, mul-right-comm c p q) (le-trans (mul-le-mul-right r h) (rw (mul-right-comm b p r) (mul-le-mul-right p k)))) Q
-
 nil : (n d e : ℕ) → 0 < d → n * d ≤ 0 → n * e ≤ 0
 nil zero d e h k = rw (zero-mul e) (omega arith)
 nil (suc n) d e h k = let z : 0 < suc n * d = mul-pos (omega arith) h in absurd (omega arith)
@@ -54,7 +48,7 @@ nil (suc n) d e h k = let z : 0 < suc n * d = mul-pos (omega arith) h in absurd 
 below-through : (s t u : Bool) (a b c p q r : ℕ) → 0 < p → 0 < q → 0 < r
     → below s (a * q) t (b * p) ≡ false → below t (b * r) u (c * q) ≡ false → below s (a * r) u (c * p) ≡ false
 below-through false false false a b c p q r P Q R h k =
-    le-ltb (a * r) (c * p) (cross c b a r q p Q (ltb-false (b * r) (c * q) k) (ltb-false (a * q) (b * p) h))
+    le-ltb (a * r) (c * p) (Positive.through c b a r q p Q (ltb-false (b * r) (c * q) k) (ltb-false (a * q) (b * p) h))
 below-through false false true a b c p q r P Q R h k = refl
 below-through false true false a b c p q r P Q R h k =
     let m = ltb-false 0 (b * r + c * q) k in
@@ -80,7 +74,7 @@ below-through true true false a b c p q r P Q R h k =
     let z = nil c q p Q (omega arith) in
     le-ltb 0 (a * r + c * p) (omega arith)
 below-through true true true a b c p q r P Q R h k =
-    le-ltb (c * p) (a * r) (cross a b c p q r Q (ltb-false (b * p) (a * q) h) (ltb-false (c * q) (b * r) k))
+    le-ltb (c * p) (a * r) (Positive.through a b c p q r Q (ltb-false (b * p) (a * q) h) (ltb-false (c * q) (b * r) k))
 
 never : true ≡ false → (A : Type 0) → A
 never e A = let z : _≡_ {A = ℕ} 0 1 = cc in absurd (omega arith)

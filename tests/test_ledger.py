@@ -15,8 +15,15 @@ def listed_crates():
             yield line.split(":")[0]
 
 
-def edits():
-    return {p.stem for c in listed_crates() for p in (ROOT / "crates" / c / "must-fail").glob("*.edit")}
+def edit_files(*folders):
+    for crate in listed_crates():
+        for folder in folders:
+            yield from sorted((ROOT / "crates" / crate / folder).glob("*.edit"))
+
+
+def edits(*folders):
+    """The names of the wrong answers tried: by the gate (must-fail), by tools/tried (tried), or by both."""
+    return {path.stem for path in edit_files(*(folders or ("must-fail", "tried")))}
 
 
 def public_calls():
@@ -42,15 +49,41 @@ class Ledger(unittest.TestCase):
         told = {name for name, _ in rows()}
         self.assertEqual([], [f"{crate}::{name}" for crate, name in public_calls() if name not in told])
 
-    def test_every_row_names_two_edits_that_exist(self):
-        there = edits()
+    def test_every_row_names_two_edits_one_of_them_in_the_gate(self):
+        there, gate = edits(), edits("must-fail")
         for name, words in rows():
             with self.subTest(call=name):
                 self.assertGreaterEqual(len({word for word in words if word in there}), 2)
+                self.assertGreaterEqual(len({word for word in words if word in gate}), 1)
 
     def test_every_edit_is_in_the_ledger(self):
         words = set(re.findall(r"\w+(?:-\w+)?", LEDGER))
         self.assertEqual([], sorted(edits() - words))
+
+    def test_the_gate_stays_short(self):
+        self.assertLessEqual(len(list(edit_files("must-fail"))), 150)
+
+    def test_no_edit_stands_in_both_folders(self):
+        for crate in listed_crates():
+            names = [{p.name for p in (ROOT / "crates" / crate / folder).glob("*.edit")} for folder in ("must-fail", "tried")]
+            self.assertEqual(set(), names[0] & names[1], crate)
+
+    def test_every_edit_applies(self):
+        """As rt reads it: each `old:` text stands just once in the file named before it, and some pair is there."""
+        for path in edit_files("must-fail", "tried"):
+            with self.subTest(edit=str(path.relative_to(ROOT))):
+                file, text, pairs = None, None, 0
+                for line in path.read_text(encoding="utf-8").splitlines():
+                    if line.startswith("file: "):
+                        file, text = line[6:], (path.parent.parent / line[6:]).read_text(encoding="utf-8")
+                        self.assertRegex(file, r"^(src|specs)/")
+                    elif line.startswith("old: "):
+                        old = line[5:]
+                        self.assertEqual(1, text.count(old), old)
+                    elif line.startswith("new:"):
+                        text = text.replace(old, line[4:].removeprefix(" "))
+                        pairs += 1
+                self.assertGreaterEqual(pairs, 1)
 
     def test_every_edit_of_the_ledger_exists(self):
         there = edits()

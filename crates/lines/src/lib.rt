@@ -15,5 +15,4 @@ pub enum Told {
 // The laws of this crate, claimed: specs/Laws.antt says each of them.
 pub fn laws()
     ensures { λ _. ⌜ Laws ⌝ }
-{
-}
+{}

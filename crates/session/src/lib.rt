@@ -97,5 +97,4 @@ pub fn finish(rest: &[u8]) -> Last
 // The laws of this crate, claimed: specs/Laws.antt says each of them.
 pub fn laws()
     ensures { λ _. ⌜ Laws ⌝ }
-{
-}
+{}

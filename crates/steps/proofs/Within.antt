@@ -5,7 +5,6 @@ use mathlib.Core.List.{List}
 use Prim.Native.Nat.{ℕ, _≤_}
 use lib.Dec.{leb, ltb, eqb}
 use lib.ListN.{length}
-
 use Rattle.paper.specs.Choice.{_and_, pick}
 use Rattle.paper.specs.Geometry.{geoOk, capOk, modeOk}
 use Rattle.paper.proofs.Choice.{and-l, and-r}

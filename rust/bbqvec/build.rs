@@ -10,6 +10,9 @@ fn main() {
     let Some(object) = env::var_os("BBQVEC_OBJECT").map(PathBuf::from) else {
         panic!("set BBQVEC_OBJECT to the object file or the static library that tools/library writes, by its full path");
     };
+    if !object.is_absolute() || !object.is_file() {
+        panic!("BBQVEC_OBJECT must be the full path of an object file or a static library, and {} is none", object.display());
+    }
     println!("cargo:rerun-if-changed={}", object.display());
     let out = PathBuf::from(env::var_os("OUT_DIR").expect("cargo sets OUT_DIR"));
     let library = out.join("libbbqvec_calls.a");
@@ -25,15 +28,6 @@ fn main() {
 
 fn archive(object: &Path, library: &Path) {
     let ar = env::var_os("AR").unwrap_or_else(|| "ar".into());
-    let done = Command::new(&ar)
-        .arg("crs")
-        .arg(library)
-        .arg(object)
-        .status();
-    assert!(
-        done.as_ref().is_ok_and(|s| s.success()),
-        "{} could not make a library of {}: {done:?}",
-        ar.to_string_lossy(),
-        object.display()
-    );
+    let done = Command::new(&ar).arg("crs").arg(library).arg(object).status();
+    assert!(done.as_ref().is_ok_and(|s| s.success()), "{} could not make a library of {}: {done:?}", ar.to_string_lossy(), object.display());
 }

@@ -1,9 +1,9 @@
 //! An index of two dimensions with one basis, the unit vectors: three vectors added, and three searches.
-use bbqvec::{Index, Mode, Refusal};
+use bbqvec::{Index, Mode, Query, Refusal, Work};
 
-fn show(index: &mut Index, target: [f32; 2], search_k: usize, spill: usize) {
-    match index.search(&target, 2, search_k, spill) {
-        Err(refusal) => println!("refused {}", refusal.number()),
+fn show(index: &Index, work: &mut Work, target: [f32; 2], query: Query) {
+    match index.search(work, &target, query) {
+        Err(refusal) => println!("refused {}", refusal.number().expect("each refusal of a search has a number")),
         Ok(found) => {
             println!("found {} checked {}", found.entries.len(), found.checked);
             for entry in found.entries {
@@ -22,8 +22,9 @@ fn main() -> Result<(), Refusal> {
         index.add(id, &vector)?;
         println!("added {id}");
     }
-    show(&mut index, [1.0, 0.0], 1, 0);
-    show(&mut index, [1.0, 0.0], 3, 1);
-    show(&mut index, [1.0, 1.0], 1, 1);
+    let mut work = index.work();
+    show(&index, &mut work, [1.0, 0.0], Query::new(2, 1, 0));
+    show(&index, &mut work, [1.0, 0.0], Query::new(2, 3, 1));
+    show(&index, &mut work, [1.0, 1.0], Query::new(2, 1, 1));
     Ok(())
 }

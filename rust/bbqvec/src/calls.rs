@@ -1,4 +1,5 @@
 //! The boundary: the calls as C has them, each behind a safe function that lends slices. All `unsafe` of the crate is here.
+#![allow(unsafe_code)]
 use crate::Refusal;
 
 mod raw {
@@ -14,128 +15,45 @@ mod raw {
         pub fn bbq_layers_len(d: usize, n: usize, cap: usize, mode: usize) -> usize;
         pub fn bbq_set_len(d: usize, n: usize, cap: usize, mode: usize) -> usize;
         pub fn bbq_normalize(v: *mut f32, v_len: usize) -> u32;
-        pub fn bbq_orthonormalize(
-            basis: *const f32,
-            basis_len: usize,
-            out: *mut f32,
-            out_len: usize,
-            d: usize,
-            rounds: usize,
-        ) -> u32;
+        pub fn bbq_orthonormalize(basis: *const f32, basis_len: usize, out: *mut f32, out_len: usize, d: usize, rounds: usize) -> u32;
         pub fn bbq_new(
-            faces: *mut u64,
-            faces_len: usize,
-            marks: *mut u64,
-            marks_len: usize,
-            vectors: *mut u8,
-            vectors_len: usize,
-            d: usize,
-            n: usize,
-            cap: usize,
-            mode: usize,
+            faces: *mut u64, faces_len: usize, marks: *mut u64, marks_len: usize, vectors: *mut u8, vectors_len: usize, d: usize, n: usize,
+            cap: usize, mode: usize,
         ) -> u32;
         pub fn bbq_add_vector(
-            bases: *const f32,
-            bases_len: usize,
-            faces: *mut u64,
-            faces_len: usize,
-            marks: *mut u64,
-            marks_len: usize,
-            vectors: *mut u8,
-            vectors_len: usize,
-            work: *mut f32,
-            work_len: usize,
-            vector: *const f32,
-            vector_len: usize,
-            d: usize,
-            n: usize,
-            cap: usize,
-            mode: usize,
+            bases: *const f32, bases_len: usize, faces: *mut u64, faces_len: usize, marks: *mut u64, marks_len: usize, vectors: *mut u8,
+            vectors_len: usize, work: *mut f32, work_len: usize, vector: *const f32, vector_len: usize, d: usize, n: usize, cap: usize, mode: usize,
             id: usize,
         ) -> u32;
         pub fn bbq_find_nearest(
-            bases: *const f32,
-            bases_len: usize,
-            faces: *const u64,
-            faces_len: usize,
-            marks: *const u64,
-            marks_len: usize,
-            vectors: *const u8,
-            vectors_len: usize,
-            work: *mut f32,
-            work_len: usize,
-            layers: *mut u64,
-            layers_len: usize,
-            set: *mut u64,
-            set_len: usize,
-            target: *const f32,
-            target_len: usize,
-            ids: *mut u32,
-            ids_len: usize,
-            scores: *mut f32,
-            scores_len: usize,
-            told: *mut u32,
-            told_len: usize,
-            d: usize,
-            n: usize,
-            cap: usize,
-            mode: usize,
-            k: usize,
-            search_k: usize,
-            spill: usize,
+            bases: *const f32, bases_len: usize, faces: *const u64, faces_len: usize, marks: *const u64, marks_len: usize, vectors: *const u8,
+            vectors_len: usize, work: *mut f32, work_len: usize, layers: *mut u64, layers_len: usize, set: *mut u64, set_len: usize,
+            target: *const f32, target_len: usize, ids: *mut u32, ids_len: usize, scores: *mut f32, scores_len: usize, told: *mut u32,
+            told_len: usize, d: usize, n: usize, cap: usize, mode: usize, k: usize, search_k: usize, spill: usize,
         ) -> u32;
         pub fn bbq_full_table_scan(
-            marks: *const u64,
-            marks_len: usize,
-            vectors: *const u8,
-            vectors_len: usize,
-            target: *const f32,
-            target_len: usize,
-            ids: *mut u32,
-            ids_len: usize,
-            scores: *mut f32,
-            scores_len: usize,
-            told: *mut u32,
-            told_len: usize,
-            d: usize,
-            n: usize,
-            cap: usize,
-            mode: usize,
+            marks: *const u64, marks_len: usize, vectors: *const u8, vectors_len: usize, target: *const f32, target_len: usize, ids: *mut u32,
+            ids_len: usize, scores: *mut f32, scores_len: usize, told: *mut u32, told_len: usize, d: usize, n: usize, cap: usize, mode: usize,
             k: usize,
         ) -> u32;
         pub fn bbq_merge(
-            faces: *mut u64,
-            faces_len: usize,
-            marks: *mut u64,
-            marks_len: usize,
-            vectors: *mut u8,
-            vectors_len: usize,
-            faces2: *const u64,
-            faces2_len: usize,
-            marks2: *const u64,
-            marks2_len: usize,
-            vectors2: *const u8,
-            vectors2_len: usize,
-            d: usize,
-            n: usize,
-            cap: usize,
+            faces: *mut u64, faces_len: usize, marks: *mut u64, marks_len: usize, vectors: *mut u8, vectors_len: usize, faces2: *const u64,
+            faces2_len: usize, marks2: *const u64, marks2_len: usize, vectors2: *const u8, vectors2_len: usize, d: usize, n: usize, cap: usize,
             mode: usize,
         ) -> u32;
     }
 }
 
 // What makes every call below sound: a slice's pointer is not null and is aligned, also when it is empty, and its elements are
-// there for as long as it is borrowed; a `&mut` slice overlaps nothing else. The calls are proved to touch nothing outside what
-// they are lent, and to end, whatever the numbers are.
+// there for as long as it is borrowed; a `&mut` slice overlaps nothing else, and no other thread reads or writes it. The calls are
+// proved to touch nothing outside what they are lent, to write only to what is lent to be written, and to end, whatever the numbers
+// are.
 
 fn told(number: u32) -> Result<(), Refusal> {
-    match number {
-        0 => Ok(()),
-        _ => Err(Refusal::of(number).expect("the calls answer 0 to 15")),
-    }
+    Refusal::of(number).map_or(Ok(()), Err)
 }
 
-/// How much to lend.
+/// How much to lend; zeros for a geometry that is refused.
 pub struct Sizes {
     pub bases: usize,
     pub faces: usize,
@@ -146,17 +64,19 @@ pub struct Sizes {
     pub set: usize,
 }
 
-pub fn sizes(d: usize, n: usize, cap: usize, mode: usize) -> Sizes {
-    // SAFETY: numbers in, a number out.
-    unsafe {
-        Sizes {
-            bases: raw::bbq_bases_len(d, n, cap, mode),
-            faces: raw::bbq_faces_len(d, n, cap, mode),
-            marks: raw::bbq_marks_len(d, n, cap, mode),
-            vectors: raw::bbq_vectors_len(d, n, cap, mode),
-            work: raw::bbq_work_len(d, n, cap, mode),
-            layers: raw::bbq_layers_len(d, n, cap, mode),
-            set: raw::bbq_set_len(d, n, cap, mode),
+impl Sizes {
+    pub fn of([d, n, cap, mode]: [usize; 4]) -> Sizes {
+        // SAFETY: numbers in, a number out.
+        unsafe {
+            Sizes {
+                bases: raw::bbq_bases_len(d, n, cap, mode),
+                faces: raw::bbq_faces_len(d, n, cap, mode),
+                marks: raw::bbq_marks_len(d, n, cap, mode),
+                vectors: raw::bbq_vectors_len(d, n, cap, mode),
+                work: raw::bbq_work_len(d, n, cap, mode),
+                layers: raw::bbq_layers_len(d, n, cap, mode),
+                set: raw::bbq_set_len(d, n, cap, mode),
+            }
         }
     }
 }
@@ -181,57 +101,21 @@ pub fn normalize(v: &mut [f32]) -> Result<(), Refusal> {
     told(unsafe { raw::bbq_normalize(v.as_mut_ptr(), v.len()) })
 }
 
-pub fn orthonormalize(
-    basis: &[f32],
-    out: &mut [f32],
-    d: usize,
-    rounds: usize,
-) -> Result<(), Refusal> {
+pub fn orthonormalize(basis: &[f32], out: &mut [f32], d: usize, rounds: usize) -> Result<(), Refusal> {
     // SAFETY: slices, lent for the call.
-    told(unsafe {
-        raw::bbq_orthonormalize(
-            basis.as_ptr(),
-            basis.len(),
-            out.as_mut_ptr(),
-            out.len(),
-            d,
-            rounds,
-        )
-    })
+    told(unsafe { raw::bbq_orthonormalize(basis.as_ptr(), basis.len(), out.as_mut_ptr(), out.len(), d, rounds) })
 }
 
-pub fn new(
-    faces: &mut [u64],
-    marks: &mut [u64],
-    vectors: &mut [u8],
-    [d, n, cap, mode]: [usize; 4],
-) -> Result<(), Refusal> {
+pub fn new(faces: &mut [u64], marks: &mut [u64], vectors: &mut [u8], [d, n, cap, mode]: [usize; 4]) -> Result<(), Refusal> {
     // SAFETY: slices, lent for the call.
     told(unsafe {
-        raw::bbq_new(
-            faces.as_mut_ptr(),
-            faces.len(),
-            marks.as_mut_ptr(),
-            marks.len(),
-            vectors.as_mut_ptr(),
-            vectors.len(),
-            d,
-            n,
-            cap,
-            mode,
-        )
+        raw::bbq_new(faces.as_mut_ptr(), faces.len(), marks.as_mut_ptr(), marks.len(), vectors.as_mut_ptr(), vectors.len(), d, n, cap, mode)
     })
 }
 
 #[allow(clippy::too_many_arguments)]
 pub fn add_vector(
-    bases: &[f32],
-    faces: &mut [u64],
-    marks: &mut [u64],
-    vectors: &mut [u8],
-    work: &mut [f32],
-    vector: &[f32],
-    [d, n, cap, mode]: [usize; 4],
+    bases: &[f32], faces: &mut [u64], marks: &mut [u64], vectors: &mut [u8], work: &mut [f32], vector: &[f32], [d, n, cap, mode]: [usize; 4],
     id: usize,
 ) -> Result<(), Refusal> {
     // SAFETY: slices, lent for the call.
@@ -260,19 +144,8 @@ pub fn add_vector(
 
 #[allow(clippy::too_many_arguments)]
 pub fn find_nearest(
-    bases: &[f32],
-    faces: &[u64],
-    marks: &[u64],
-    vectors: &[u8],
-    work: &mut [f32],
-    layers: &mut [u64],
-    set: &mut [u64],
-    target: &[f32],
-    ids: &mut [u32],
-    scores: &mut [f32],
-    numbers: &mut [u32; 3],
-    [d, n, cap, mode]: [usize; 4],
-    [k, search_k, spill]: [usize; 3],
+    bases: &[f32], faces: &[u64], marks: &[u64], vectors: &[u8], work: &mut [f32], layers: &mut [u64], set: &mut [u64], target: &[f32],
+    ids: &mut [u32], scores: &mut [f32], numbers: &mut [u32; 3], [d, n, cap, mode]: [usize; 4], [k, search_k, spill]: [usize; 3],
 ) -> Result<(), Refusal> {
     // SAFETY: slices, lent for the call.
     told(unsafe {
@@ -312,13 +185,7 @@ pub fn find_nearest(
 
 #[allow(clippy::too_many_arguments)]
 pub fn full_table_scan(
-    marks: &[u64],
-    vectors: &[u8],
-    target: &[f32],
-    ids: &mut [u32],
-    scores: &mut [f32],
-    numbers: &mut [u32; 2],
-    [d, n, cap, mode]: [usize; 4],
+    marks: &[u64], vectors: &[u8], target: &[f32], ids: &mut [u32], scores: &mut [f32], numbers: &mut [u32; 2], [d, n, cap, mode]: [usize; 4],
     k: usize,
 ) -> Result<(), Refusal> {
     // SAFETY: slices, lent for the call.
@@ -346,13 +213,7 @@ pub fn full_table_scan(
 }
 
 pub fn merge(
-    faces: &mut [u64],
-    marks: &mut [u64],
-    vectors: &mut [u8],
-    faces2: &[u64],
-    marks2: &[u64],
-    vectors2: &[u8],
-    [d, n, cap, mode]: [usize; 4],
+    faces: &mut [u64], marks: &mut [u64], vectors: &mut [u8], faces2: &[u64], marks2: &[u64], vectors2: &[u8], [d, n, cap, mode]: [usize; 4],
 ) -> Result<(), Refusal> {
     // SAFETY: slices, lent for the call.
     told(unsafe {

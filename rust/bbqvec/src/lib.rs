@@ -1,291 +1,133 @@
-//! The proved vector index, safe to call from Rust. An [`Index`] owns the memory that the calls are lent, so no length can be
-//! wrong by mistake; what a call refuses comes back as a [`Refusal`], and leaves the index as it was.
+//! A vector index whose calls are proved, safe to use from Rust. An [`Index`] owns the memory that the calls are lent, so no length of it can be
+//! wrong. What is refused comes back as a [`Refusal`], and leaves the index as it was.
 //!
 //! ```
-//! use bbqvec::{Index, Mode};
-//! let mut index = Index::new(2, 1, 64, Mode::Full)?;
+//! use bbqvec::{normalize, Index, Mode, Query};
+//!
+//! let mut index = Index::new(2, 1, 64, Mode::Full)?; // dimensions, bases, capacity
 //! index.set_basis(0, &[1.0, 0.0, 0.0, 1.0])?;
 //! index.add(7, &[3.0, 0.0])?;
-//! let found = index.search(&[1.0, 0.0], 5, 1, 0)?;
-//! assert_eq!((found.entries[0].id, found.entries[0].score), (7, 0.0));
+//! index.add(9, &[4.0, 3.0])?;
+//! let mut target = [2.0, 0.0];
+//! normalize(&mut target)?;
+//! let found = index.search(&mut index.work(), &target, Query::new(256, 1, 0))?;
+//! let nearest = found.entries.last().expect("search_k 1 finds one at least");
+//! assert_eq!((nearest.id, nearest.score, found.checked), (7, 0.0, 2));
 //! # Ok::<(), bbqvec::Refusal>(())
 //! ```
+//!
+//! # What a list has
+//!
+//! A search chooses candidates, gives each a score and lists `k` of them. The score is a distance, and **the larger score comes first**; of equal
+//! scores the lower id comes first. So a list begins with the candidate that is farthest from the target, and of more candidates than `k` it has
+//! the `k` farthest: the nearest are left out. A scan does the same with every vector that is held.
+//!
+//! [`Found::checked`] says how many were ranked. Where it is at most `k`, all of them are listed, and the nearest is the last entry.
+//!
+//! ```
+//! # use bbqvec::{Index, Mode, Query};
+//! # let mut index = Index::new(2, 1, 64, Mode::Full)?;
+//! # index.set_basis(0, &[1.0, 0.0, 0.0, 1.0])?;
+//! # let mut work = index.work();
+//! for (id, vector) in [(1, [1.0, 0.0]), (2, [4.0, 3.0]), (3, [12.0, 5.0])] {
+//!     index.add(id, &vector)?;
+//! }
+//! let target = [1.0, 0.0]; // vector 1 itself
+//! let all = index.search(&mut work, &target, Query::new(3, 1, 0))?;
+//! assert_eq!(all.entries.iter().map(|e| e.id).collect::<Vec<_>>(), [2, 3, 1]);
+//! let one = index.search(&mut work, &target, Query::new(1, 1, 0))?;
+//! assert_eq!((one.entries[0].id, one.checked), (2, 3)); // vector 1 is left out
+//! # Ok::<(), bbqvec::Refusal>(())
+//! ```
+//!
+//! # What a score is
+//!
+//! A score is the Euclidean distance from the target as given to the stored vector. The stored vector is the added one divided by its norm, and in
+//! [`Mode::Half`] each component is then rounded to bf16. The target is not divided, so [`normalize`] it first, or the score of a vector with
+//! itself is not zero:
+//!
+//! ```
+//! # use bbqvec::{Index, Mode, Scan};
+//! # let mut index = Index::new(2, 1, 64, Mode::Full)?;
+//! # index.set_basis(0, &[1.0, 0.0, 0.0, 1.0])?;
+//! index.add(1, &[4.0, 0.0])?; // stored as (1, 0)
+//! assert_eq!(index.scan(&[4.0, 0.0], Scan::new(1))?.entries[0].score, 3.0);
+//! assert_eq!(index.scan(&[1.0, 0.0], Scan::new(1))?.entries[0].score, 0.0);
+//! # Ok::<(), bbqvec::Refusal>(())
+//! ```
+//!
+//! # Bases
+//!
+//! A basis is `d` vectors of `d` components. It has `2d` faces: one for each of its vectors and one for each vector's opposite. An added vector
+//! lies on one face of each basis: the one for its projection of greatest absolute value. A search looks at the faces of the target, so the bases
+//! have to be the same when vectors are added, when they are searched for, and in all indexes that are to be merged. Once
+//! something was added or merged in, an index keeps its bases; [`Index::merge`] compares them.
+//!
+//! Bases are zeros until they are set, and used as given. The published bbqvec takes random numbers and orthonormalises them in one round.
+//! [`orthonormalize`] gives the same bits for the same numbers on every machine.
+//!
+//! # `search_k` and `spill`
+//!
+//! 1. In each basis the target's `spill + 1` faces of greatest absolute projection are picked, and the ids on them are joined to one set. A
+//!    `spill` at or above `d` counts as `d - 1`.
+//! 2. The `n` sets are counted in `n` layers. Layer `i`, from 0, holds the ids that more than `i` of the bases agree on.
+//! 3. The candidates are the ids of the highest layer that has at least `search_k` of them. They are ranked by rising id. Where no layer has as
+//!    many, the search is refused with [`Refusal::NoLayer`], number 8. With `search_k` 0 the last layer is taken, even if it is empty.
+//!
+//! A larger `search_k` takes the same layer or a lower one: the same candidates and possibly more, on which fewer bases agree. A larger `spill`
+//! looks at more faces in each basis. It takes no id out of any layer, but it may fill a higher layer so far that this one is chosen, and then the
+//! list can get shorter.
+//!
+//! To choose them, begin with `k` 256, the number of neighbours you need as `search_k`, and `spill` 0. Where the search is refused with 8 or finds
+//! poor neighbours, raise `spill`. Where [`Found::checked`] is more than 256, the nearest are left out: lower `search_k`, so that a higher layer
+//! with fewer ids will do. An index with more bases has more layers to choose from.
+//!
+//! # Threads
+//!
+//! [`Index::search`] and [`Index::scan`] take `&self`, so threads can share an index. A search works in a [`Work`], one for each thread:
+//!
+//! ```
+//! # use bbqvec::{Index, Mode, Query};
+//! # let mut index = Index::new(2, 1, 64, Mode::Full)?;
+//! # index.set_basis(0, &[1.0, 0.0, 0.0, 1.0])?;
+//! # index.add(7, &[3.0, 0.0])?;
+//! # index.add(9, &[0.0, 1.0])?;
+//! let index = &index;
+//! std::thread::scope(|threads| {
+//!     for target in [[1.0, 0.0], [0.0, 1.0]] {
+//!         threads.spawn(move || {
+//!             let mut work = index.work();
+//!             let found = index.search(&mut work, &target, Query::new(8, 1, 0)).unwrap();
+//!             assert_eq!(found.entries[0].score, 0.0);
+//!         });
+//!     }
+//! });
+//! # Ok::<(), bbqvec::Refusal>(())
+//! ```
+//!
+//! # What is proved, and what is assumed
+//!
+//! The calls below this crate are proved; the crate itself is tested. What is proved assumes the floating-point environment that Rust starts every
+//! thread with: rounding to nearest, ties to even, and subnormal numbers kept, neither flushed to zero nor read as zero. Code in another language
+//! can change that for a thread. Do not call an index from such a thread: its answers can differ there.
+#![warn(missing_docs)]
+#![deny(unsafe_code)]
+#![forbid(unsafe_op_in_unsafe_fn)]
 
 mod calls;
+mod index;
+mod numbers;
+mod query;
 mod refusal;
+mod work;
 
+pub use index::{Index, Mode};
+pub use numbers::{lower, normalize, orthonormalize, sqrt, widen};
+pub use query::{Entry, Found, Query, Scan, MAX_K};
 pub use refusal::Refusal;
+pub use work::Work;
 
-/// The most entries that a list may have.
-pub const MAX_K: usize = 256;
-
-/// How a component is stored.
-#[derive(Clone, Copy, Debug, PartialEq, Eq)]
-pub enum Mode {
-    /// Four bytes: as it is.
-    Full = 0,
-    /// Two bytes: its bf16.
-    Half = 1,
-}
-
-/// One entry of a list.
-#[derive(Clone, Copy, Debug, PartialEq)]
-pub struct Entry {
-    pub id: u32,
-    pub score: f32,
-}
-
-/// What a search or a scan found: its list, and how many ids were ranked for it.
-#[derive(Clone, Debug, PartialEq)]
-pub struct Found {
-    pub entries: Vec<Entry>,
-    pub checked: u32,
-    /// How many ids fell off the last counting layer; 0 for a scan.
-    pub dropped: u32,
-}
-
-/// An index, with its bases and the work memory of its calls.
-#[derive(Clone, Debug)]
-pub struct Index {
-    d: usize,
-    n: usize,
-    cap: usize,
-    mode: Mode,
-    /// Whether anything was added or merged in: the bases are settled from then on.
-    settled: bool,
-    bases: Vec<f32>,
-    faces: Vec<u64>,
-    marks: Vec<u64>,
-    vectors: Vec<u8>,
-    work: Vec<f32>,
-    layers: Vec<u64>,
-    set: Vec<u64>,
-}
-
-impl Index {
-    /// An empty index of `d` dimensions (1 to 1,024) with `n` bases (1 to 32), all zeros until they are set, for ids below `cap`
-    /// (a multiple of 64, 64 to 65,536). Refuses [`Refusal::Geometry`].
-    pub fn new(d: usize, n: usize, cap: usize, mode: Mode) -> Result<Index, Refusal> {
-        let sizes = calls::sizes(d, n, cap, mode as usize);
-        if sizes.marks == 0 {
-            return Err(Refusal::Geometry);
-        }
-        let mut index = Index {
-            d,
-            n,
-            cap,
-            mode,
-            settled: false,
-            bases: vec![0.0; sizes.bases],
-            faces: vec![0; sizes.faces],
-            marks: vec![0; sizes.marks],
-            vectors: vec![0; sizes.vectors],
-            work: vec![0.0; sizes.work],
-            layers: vec![0; sizes.layers],
-            set: vec![0; sizes.set],
-        };
-        calls::new(
-            &mut index.faces,
-            &mut index.marks,
-            &mut index.vectors,
-            [d, n, cap, mode as usize],
-        )?;
-        Ok(index)
-    }
-
-    pub fn dimensions(&self) -> usize {
-        self.d
-    }
-
-    pub fn bases(&self) -> usize {
-        self.n
-    }
-
-    pub fn capacity(&self) -> usize {
-        self.cap
-    }
-
-    pub fn mode(&self) -> Mode {
-        self.mode
-    }
-
-    fn geometry(&self) -> [usize; 4] {
-        [self.d, self.n, self.cap, self.mode as usize]
-    }
-
-    /// Whether a vector is held under the id.
-    pub fn holds(&self, id: usize) -> bool {
-        id < self.cap && self.marks[id / 64] >> (id % 64) & 1 == 1
-    }
-
-    /// How many vectors are held.
-    pub fn len(&self) -> usize {
-        self.marks.iter().map(|w| w.count_ones() as usize).sum()
-    }
-
-    pub fn is_empty(&self) -> bool {
-        self.marks.iter().all(|&w| w == 0)
-    }
-
-    /// Sets basis `b`: `d` vectors of `d` components, one after the other, used as given. Refuses [`Refusal::Geometry`] once
-    /// something was added or merged in, then [`Refusal::Length`], then [`Refusal::Geometry`] for a `b` that is not below `n`.
-    pub fn set_basis(&mut self, b: usize, basis: &[f32]) -> Result<(), Refusal> {
-        let size = self.d * self.d;
-        if self.settled {
-            return Err(Refusal::Geometry);
-        }
-        if basis.len() != size {
-            return Err(Refusal::Length);
-        }
-        if b >= self.n {
-            return Err(Refusal::Geometry);
-        }
-        self.bases[b * size..(b + 1) * size].copy_from_slice(basis);
-        Ok(())
-    }
-
-    /// Puts the vector into the index under the id. Adding an id again overwrites its vector and leaves its older face bits.
-    pub fn add(&mut self, id: usize, vector: &[f32]) -> Result<(), Refusal> {
-        let geometry = self.geometry();
-        calls::add_vector(
-            &self.bases,
-            &mut self.faces,
-            &mut self.marks,
-            &mut self.vectors,
-            &mut self.work,
-            vector,
-            geometry,
-            id,
-        )?;
-        self.settled = true;
-        Ok(())
-    }
-
-    /// The nearest `k` to the target among the candidates of the highest counting layer with at least `search_k` ids, with
-    /// `spill` + 1 faces a basis. (It needs `&mut` for its work memory alone.)
-    pub fn search(
-        &mut self,
-        target: &[f32],
-        k: usize,
-        search_k: usize,
-        spill: usize,
-    ) -> Result<Found, Refusal> {
-        let geometry = self.geometry();
-        let mut room = Room::new(self.d, target, k)?;
-        let mut told = [0; 3];
-        calls::find_nearest(
-            &self.bases,
-            &self.faces,
-            &self.marks,
-            &self.vectors,
-            &mut self.work,
-            &mut self.layers,
-            &mut self.set,
-            target,
-            &mut room.ids,
-            &mut room.scores,
-            &mut told,
-            geometry,
-            [k, search_k, spill],
-        )?;
-        let [len, checked, dropped] = told;
-        Ok(room.found(len, checked, dropped))
-    }
-
-    /// The same over every vector that is held.
-    pub fn scan(&self, target: &[f32], k: usize) -> Result<Found, Refusal> {
-        let mut room = Room::new(self.d, target, k)?;
-        let mut told = [0; 2];
-        calls::full_table_scan(
-            &self.marks,
-            &self.vectors,
-            target,
-            &mut room.ids,
-            &mut room.scores,
-            &mut told,
-            self.geometry(),
-            k,
-        )?;
-        let [len, checked] = told;
-        Ok(room.found(len, checked, 0))
-    }
-
-    /// Joins another index to this one. Refuses [`Refusal::Geometry`] for one of another geometry, and [`Refusal::SharedId`].
-    /// Bases are not compared.
-    pub fn merge(&mut self, other: &Index) -> Result<(), Refusal> {
-        let geometry = self.geometry();
-        if geometry != other.geometry() {
-            return Err(Refusal::Geometry);
-        }
-        calls::merge(
-            &mut self.faces,
-            &mut self.marks,
-            &mut self.vectors,
-            &other.faces,
-            &other.marks,
-            &other.vectors,
-            geometry,
-        )?;
-        self.settled |= other.settled;
-        Ok(())
-    }
-}
-
-/// The arrays that a list is written into.
-struct Room {
-    ids: Vec<u32>,
-    scores: Vec<f32>,
-}
-
-impl Room {
-    /// Makes the two refusals that come before any room is made for k entries, in their order.
-    fn new(d: usize, target: &[f32], k: usize) -> Result<Room, Refusal> {
-        if target.len() != d {
-            return Err(Refusal::Length);
-        }
-        if k > MAX_K {
-            return Err(Refusal::K);
-        }
-        Ok(Room {
-            ids: vec![0; k],
-            scores: vec![0.0; k],
-        })
-    }
-
-    fn found(self, len: u32, checked: u32, dropped: u32) -> Found {
-        let pairs = self.ids.into_iter().zip(self.scores);
-        let entries = pairs.take(len as usize);
-        Found {
-            entries: entries.map(|(id, score)| Entry { id, score }).collect(),
-            checked,
-            dropped,
-        }
-    }
-}
-
-/// Divides each component by the norm; a refused vector stays as it was.
-pub fn normalize(vector: &mut [f32]) -> Result<(), Refusal> {
-    calls::normalize(vector)
-}
-
-/// A basis of `d` vectors of `d` components, orthonormalised in this many rounds (0 to 8).
-pub fn orthonormalize(basis: &[f32], d: usize, rounds: usize) -> Result<Vec<f32>, Refusal> {
-    let mut out = vec![0.0; basis.len()];
-    calls::orthonormalize(basis, &mut out, d, rounds)?;
-    Ok(out)
-}
-
-/// The root of a float, by the proved root of its bits. Every NaN gives the same one.
-pub fn sqrt(x: f32) -> f32 {
-    f32::from_bits(calls::sqrt(x.to_bits()))
-}
-
-/// The bits of the bf16 of the binary32 with these bits.
-pub fn lower(bits: u32) -> u16 {
-    calls::lower(bits)
-}
-
-/// The bits of the binary32 of the bf16 with these bits.
-pub fn widen(half: u16) -> u32 {
-    calls::widen(half)
-}
+/// The readme's examples are tested with the others.
+#[cfg(doctest)]
+#[doc = include_str!("../README.md")]
+struct Readme;

@@ -1,5 +1,5 @@
 #!/usr/bin/env python3
-"""Derives what the program is to print for the runs in tests/runs, and holds it against the Rust.
+"""Derives what the program is to print for the runs in tests/runs and tests/long_run.py, and holds it against the Rust.
 
     python3 tests/confirm_runs.py              the files stdin and stdout of the crates are what the texts and the model give
     python3 tests/confirm_runs.py --write      writes those files
@@ -14,9 +14,10 @@ import sys
 
 ROOT = os.path.dirname(os.path.dirname(os.path.abspath(__file__)))
 sys.path.insert(0, os.path.join(ROOT, 'tests'))
+import long_run  # noqa: E402
 import program_model  # noqa: E402
 
-RUNS = {'worked': 'search', 'mode0': 'search_mode0', 'mode1': 'search_mode1'}
+RUNS = {'worked': 'search', 'mode0': 'search_mode0', 'mode1': 'search_mode1', 'long': 'search_long'}
 
 
 def tool():
@@ -29,6 +30,8 @@ def tool():
 
 
 def text_of(name):
+    if name == 'long':
+        return long_run.text()
     path = os.path.join(ROOT, 'examples', 'first.txt') if name == 'worked' else os.path.join(ROOT, 'tests', 'runs', name + '.txt')
     with open(path, 'rb') as f:
         return f.read()

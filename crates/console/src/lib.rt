@@ -1,16 +1,26 @@
 // The search program's reading and writing: records from standard input, lines to standard output, a buffer at a time.
 // What the records come to is all in the crate session. No contract can say which bytes a read or a write of C's moves, so what the functions
-// here promise is what they do to the buffers. The law that a program which reads, feeds and writes like this one prints the same however its
-// input comes in stands in session (proofs/Whole.antt: whole, plays, any-cut).
+// here promise is what they do to the buffers. What a turn of the loop does of a run is proved (turn, and the laws turn-goes and turn-ends); that a
+// program of such turns prints the same however its input comes in is session's law (whole, plays, any-cut).
 ghost use mathlib.Core.Path.{_≡_};
 ghost use Prim.Native.Nat.{_+_, _-_, _≤_};
 ghost use lib.ListN.{length, take, drop};
 ghost use Rattle.steps.specs.Steps.{held};
 ghost use Rattle.session.specs.Runs.{fed, feedOf};
+ghost use Rattle.console.specs.Turns.{between, Turned};
+ghost use Rattle.console.specs.Laws.{Laws};
 use libc::STDIN_FILENO;
 use libc::STDOUT_FILENO;
 use session::Ran;
 use steps::Store;
+
+// Where a turn leaves the run: the program's state, the part of the buffer that was read and is not used yet, and whether the run goes on.
+pub struct Place {
+    pub store: Store,
+    pub from: usize,
+    pub end: usize,
+    pub goes: bool,
+}
 
 // Where the input that stands in the buffer ends, and whether more was read.
 pub struct More {
@@ -78,10 +88,56 @@ fn feed_part(input: &[u8], from: usize, end: usize, store: Store, out: &mut [u8]
     session::feed(&input[from..end], store, out)
 }
 
+// One turn of the loop: feeds what stands in the buffer, writes what that has put, and reads more where it is asked for. That the bytes written
+// are those that feed has put, and that the end of the input prints its text, is seen here and in no contract: none can speak of what C moves.
+fn turn(input: &mut [u8], from: usize, end: usize, store: Store, out: &mut [u8]) -> Place
+    requires { ⌜ (from ≤ end) × (end ≤ length (now input)) ⌝ }
+    ensures { λ r. ⌜ Turned (between from end (now (input .entry))) (held store) (now (out .entry)) r (now (input .exit)) ⌝ }
+{
+    let ran = feed_part(input, from, end, store, out);
+    let after = ran.store;
+    let rest = from + ran.used;
+    if !print(out, ran.put) {
+        return Place {
+            store: after,
+            from: rest,
+            end,
+            goes: false,
+        };
+    }
+    if ran.stops {
+        return Place {
+            store: after,
+            from: rest,
+            end,
+            goes: false,
+        };
+    }
+    if !ran.waits {
+        return Place {
+            store: after,
+            from: rest,
+            end,
+            goes: true,
+        };
+    }
+    let more = refill(input, rest, end);
+    let last = more.end;
+    if !more.any {
+        end_run(&input[0..last]);
+    }
+    Place {
+        store: after,
+        from: 0,
+        end: last,
+        goes: more.any,
+    }
+}
+
 // Reads all of standard input and prints what a run over it prints; it ends early where the run stops or where nothing more can be written.
-// What feed leaves of the input when it waits is less than a record (session, proofs/Frames.antt: part-short), so that there is always room to
-// read more. Every turn reads at least a byte, or empties a full buffer (proofs/Whole.antt: moves), or ends the run: the turns that are counted
-// down, as a loop has to be seen to end, are never used up.
+// What feed leaves of the input when it waits is less than a record (session's law part-short), so that there is always room to read more.
+// Every turn reads at least a byte, or empties a full buffer (its law moves), or ends the run: the turns that are counted down, as a loop has to
+// be seen to end, are never used up.
 pub fn run() {
     let mut store = steps::start();
     let mut input = [0u8; 65536];
@@ -91,25 +147,18 @@ pub fn run() {
     let mut turns = u64::MAX;
     while turns > 0 {
         turns -= 1;
-        let ran = feed_part(&input, from, end, store, &mut out);
-        let after = ran.store;
+        let t = turn(&mut input, from, end, store, &mut out);
+        if !t.goes {
+            return;
+        }
+        let after = t.store;
         store = after;
-        if !print(&out, ran.put) {
-            return;
-        }
-        if ran.stops {
-            return;
-        }
-        from += ran.used;
-        if ran.waits {
-            let more = refill(&mut input, from, end);
-            if !more.any {
-                let last = more.end;
-                end_run(&input[0..last]);
-                return;
-            }
-            from = 0;
-            end = more.end;
-        }
+        from = t.from;
+        end = t.end;
     }
 }
+
+// The laws of this crate, claimed: specs/Laws.antt says each of them.
+pub fn laws()
+    ensures { λ _. ⌜ Laws ⌝ }
+{}

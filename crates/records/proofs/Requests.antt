@@ -60,7 +60,7 @@ module _ (s : List ℕ) (g : Session) where
 
   geometry-fits : Fits (geometryOf s g) s g
   unfolding geometryOf
-  geometry-fits = demand-fits 1 (eqb (g .stage) 0) _ (λ _. demand-fits 2 (eqb (length s) 11) _ (λ _. demand-fits 1 (geometryFits (u16At s 2) (u16At s 4) (u32At s 6) (getD s 10 0)) _ (λ _. tt)))
+  geometry-fits = demand-fits 1 (eqb (g .stage) 0) _ (λ _. demand-fits 2 (eqb (length s) 11) _ (λ _. demand-fits 1 (geometryFits (u16At s 2) (u16At s 4) (u32At s 6) (getD s 10 0)) _ (λ f. f)))
 
   module _ (l : Limits g) where
     basis-fits : Fits (basisOf s g) s g

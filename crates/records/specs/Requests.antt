@@ -1,7 +1,7 @@
 -- What a record asks for, or its refusal, in the order of 01: the kind (15), the time (1), the body's length (2), the fields (1).
 use Prim.Native.Nat.{ℕ, _+_, _*_, _≤_, _<_}
 use mathlib.Core.Path.{_≡_}
-use mathlib.Core.Bool.{Bool, not}
+use mathlib.Core.Bool.{Bool, true, not}
 use mathlib.Core.List.{List}
 use lib.ListN.{length, getD}
 use lib.Dec.{ltb, leb, eqb}
@@ -66,7 +66,7 @@ pub record Limits (g : Session) : Type 0 where
 
 abbrev pub Fits : Request → List ℕ → Session → Type 0
 Fits (Refuse k) s g = Unit
-Fits (Geometry d n cap mode) s g = Unit
+Fits (Geometry d n cap mode) s g = geometryFits d n cap mode ≡ true
 Fits (Basis b) s g = Limits g × (b < g .n) × (length s ≡ 4 + 4 * (g .d * g .d))
 Fits (Add id) s g = Limits g × (length s ≡ 6 + 4 * g .d)
 Fits (Search k wanted spill) s g = Limits g × (length s ≡ 10 + 4 * g .d)

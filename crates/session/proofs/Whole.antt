@@ -12,7 +12,7 @@ use borrow.Author.Tests.{le-ltb, ltb-false}
 use Rattle.paper.specs.Choice.{pick}
 use Rattle.lines.specs.Lines.{told}
 use Rattle.lines.specs.declared.Told.the-variants as Says
-use Rattle.lines.proofs.Laws.{told-short}
+use Rattle.lines.proofs.Texts.{told-short}
 use Rattle.steps.specs.Steps.{State, stepOf}
 use Rattle.steps.proofs.Cases.{step-short}
 use Rattle.session.specs.declared.Frame.{Frame}

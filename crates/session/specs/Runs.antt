@@ -9,7 +9,7 @@ use Rattle.paper.specs.Choice.{pick}
 use Rattle.records.specs.Fields.{u32At}
 use Rattle.lines.specs.Lines.{told}
 use Rattle.lines.specs.declared.Told.the-variants as Says
-use Rattle.steps.specs.Steps.{State, stepOf}
+use Rattle.steps.specs.Steps.{State, held, startOf, stepOf}
 use Rattle.session.specs.declared.Frame.{Frame}
 use Rattle.session.specs.declared.Frame.the-variants.{Whole, Bad, Part}
 
@@ -47,6 +47,10 @@ runTo (suc k) s st = go (frameOf s) (runTo k) s st
 -- all that a run over a whole input prints, from a state on: an input of n bytes has no more than n records
 unfoldable pub run : List ℕ → State → List ℕ
 run s st = runTo (suc (length s)) s st
+
+-- all that the program prints for its input: the run from the state before the first record
+unfoldable pub printed : List ℕ → List ℕ
+printed s = run s (held startOf)
 
 -- ---- one call of feed
 

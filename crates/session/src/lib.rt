@@ -4,6 +4,7 @@ ghost use lib.ListN.{replicate};
 ghost use Rattle.lines.specs.Lines.{Put};
 ghost use Rattle.steps.specs.Steps.{held};
 ghost use Rattle.session.specs.Runs.{endText, fed, feedOf};
+ghost use Rattle.session.specs.Laws.{Laws};
 use lines::Told;
 use records::Session;
 use steps::Store;
@@ -92,3 +93,8 @@ pub fn finish(rest: &[u8]) -> Last
     let len = lines::inner::put_told(&mut text, 0, Told::Refused(15));
     Last { text, len }
 }
+
+// The laws of this crate, claimed: specs/Laws.antt says each of them.
+pub fn laws()
+    ensures { λ _. ⌜ Laws ⌝ }
+{}

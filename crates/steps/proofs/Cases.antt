@@ -20,7 +20,7 @@ use Rattle.records.specs.declared.Request.the-variants as Asks
 use Rattle.records.proofs.Floats.{floats-length}
 use Rattle.lines.specs.Lines.{Put, told, listing}
 use Rattle.lines.specs.declared.Told.the-variants as Says
-use Rattle.lines.proofs.Laws.{told-short, listing-length}
+use Rattle.lines.proofs.Texts.{told-short, listing-length}
 use Rattle.index_memory.specs.Memory.{Ix, ixOf}
 use Rattle.adding.specs.Adding.{added, addOf}
 use Rattle.vector_store.specs.Search.{Work, works, Searched, searched, searchOf}

@@ -1,3 +1,4 @@
 pub mod Room
 pub mod Cases
 pub mod Refused
+pub mod Within

@@ -1,6 +1,7 @@
 // One record of the search program: what it does to the program's memory, and what it prints (01, "The search program").
 ghost use mathlib.Core.Path.{_≡_};
 ghost use Rattle.steps.specs.Steps.{startOf};
+ghost use Rattle.steps.specs.Laws.{Laws};
 use records::Session;
 
 pub mod inner;
@@ -39,3 +40,8 @@ pub fn start() -> Store
         vectors: [0u8; 8192],
     }
 }
+
+// The laws of this crate, claimed: specs/Laws.antt says each of them.
+pub fn laws()
+    ensures { λ _. ⌜ Laws ⌝ }
+{}

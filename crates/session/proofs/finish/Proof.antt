@@ -1,4 +1,4 @@
-use Rattle.lines.proofs.Laws.{put-as}
+use Rattle.lines.proofs.Texts.{put-as}
 use Rattle.session.proofs.Runs.{none-left, some-left}
 use borrow.Author.Needs.{needs}
 use Rattle.session.proofs.finish.Statement.{statement}

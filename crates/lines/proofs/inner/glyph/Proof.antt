@@ -1,4 +1,4 @@
-use Rattle.lines.proofs.Laws.{low-glyph, high-glyph}
+use Rattle.lines.proofs.Texts.{low-glyph, high-glyph}
 use borrow.Author.Needs.{needs}
 use Rattle.lines.proofs.inner.glyph.Statement.{statement}
 use Rattle.lines.proofs.inner.glyph.Tie as tie

@@ -2,7 +2,7 @@ use mathlib.Core.Path.{ap}
 use lib.ListN.{length}
 use native.Mathlib.Omega.{arith}
 use Rattle.lines.specs.Lines.{decimal, tenDigits}
-use Rattle.lines.proofs.Laws.{put-as, trim-length}
+use Rattle.lines.proofs.Texts.{put-as, trim-length}
 use borrow.Author.Needs.{needs}
 use Rattle.lines.proofs.inner.put_decimal.Statement.{statement}
 use Rattle.lines.proofs.inner.put_decimal.Tie as tie

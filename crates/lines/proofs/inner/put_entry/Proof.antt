@@ -1,7 +1,7 @@
 use native.Mathlib.Omega.{arith}
 use mathlib.Core.Path.{ap}
 use Rattle.lines.specs.Lines.{hexadecimal, entry}
-use Rattle.lines.proofs.Laws.{then, put-as, decimal-length}
+use Rattle.lines.proofs.Texts.{then, put-as, decimal-length}
 use borrow.Author.Needs.{needs}
 use Rattle.lines.proofs.inner.put_entry.Statement.{statement}
 use Rattle.lines.proofs.inner.put_entry.Tie as tie

@@ -1,6 +1,6 @@
 use mathlib.Core.List.{[], _∷_}
 use Rattle.lines.specs.Lines.{hexadecimal, glyph}
-use Rattle.lines.proofs.Laws.{put-as}
+use Rattle.lines.proofs.Texts.{put-as}
 use borrow.Author.Needs.{needs}
 use Rattle.lines.proofs.inner.put_hexadecimal.Statement.{statement}
 use Rattle.lines.proofs.inner.put_hexadecimal.Tie as tie

@@ -1,7 +1,7 @@
 use native.Mathlib.Omega.{arith}
 use lib.ListN.{length-append}
 use Rattle.lines.specs.Lines.{decimal}
-use Rattle.lines.proofs.Laws.{then, decimal-length}
+use Rattle.lines.proofs.Texts.{then, decimal-length}
 use borrow.Author.Needs.{needs}
 use Rattle.lines.proofs.inner.put_line.Statement.{statement}
 use Rattle.lines.proofs.inner.put_line.Tie as tie

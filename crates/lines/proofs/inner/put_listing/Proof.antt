@@ -4,7 +4,7 @@ use native.Mathlib.Omega.{arith}
 use native.Mathlib.Numerals.{add-one}
 use lib.ListN.{length}
 use Rattle.lines.specs.Lines.{Put, listing}
-use Rattle.lines.proofs.Laws.{then, put-as, put-none, listing-length, listing-more}
+use Rattle.lines.proofs.Texts.{then, put-as, put-none, listing-length, listing-more}
 use borrow.Author.Needs.{needs}
 use Rattle.lines.proofs.inner.put_listing.Statement.{statement}
 use Rattle.lines.proofs.inner.put_listing.Tie as tie

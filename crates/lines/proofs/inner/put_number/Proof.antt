@@ -1,4 +1,4 @@
-use Rattle.lines.proofs.Laws.{then}
+use Rattle.lines.proofs.Texts.{then}
 use borrow.Author.Needs.{needs}
 use Rattle.lines.proofs.inner.put_number.Statement.{statement}
 use Rattle.lines.proofs.inner.put_number.Tie as tie

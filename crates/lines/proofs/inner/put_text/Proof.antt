@@ -4,7 +4,7 @@ use native.Mathlib.Omega.{arith}
 use native.Mathlib.Numerals.{add-one}
 use lib.ListN.{length, length-set}
 use lib.Seq.{paste, paste-zero, paste-suc}
-use Rattle.lines.proofs.Laws.{pasted}
+use Rattle.lines.proofs.Texts.{pasted}
 use borrow.Author.Needs.{needs}
 use Rattle.lines.proofs.inner.put_text.Statement.{statement}
 use Rattle.lines.proofs.inner.put_text.Tie as tie

@@ -1,7 +1,7 @@
 use mathlib.Core.Path.{sym, ap}
 use native.Mathlib.Omega.{arith}
 use Rattle.lines.specs.Lines.{told}
-use Rattle.lines.proofs.Laws.{then, put-as, decimal-length}
+use Rattle.lines.proofs.Texts.{then, put-as, decimal-length}
 use borrow.Author.Needs.{needs}
 use Rattle.lines.proofs.inner.put_told.Statement.{statement}
 use Rattle.lines.proofs.inner.put_told.Tie as tie

@@ -1,4 +1,4 @@
-use Rattle.lines.proofs.Laws.{tail-part, stops-at, ends-at}
+use Rattle.lines.proofs.Texts.{tail-part, stops-at, ends-at}
 use lib.ListN.{getD}
 use mathlib.Core.List.{_∷_}
 use mathlib.Core.Path.{_≡_, sym, ap, _∙_}
@@ -8,7 +8,7 @@ use native.Mathlib.Numerals.{add-one}
 use lib.ListN.{length, drop, length-drop}
 use lib.Seq.{drop-cons}
 use Rattle.lines.specs.Lines.{trimmed}
-use Rattle.lines.proofs.Laws.{trim-one, trim-more}
+use Rattle.lines.proofs.Texts.{trim-one, trim-more}
 use borrow.Author.Needs.{needs}
 use Rattle.lines.proofs.inner.trimmed_part.Statement.{statement}
 use Rattle.lines.proofs.inner.trimmed_part.Tie as tie

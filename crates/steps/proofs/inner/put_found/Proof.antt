@@ -1,5 +1,5 @@
 use native.Mathlib.Omega.{arith}
-use Rattle.lines.proofs.Laws.{then, put-as, told-short}
+use Rattle.lines.proofs.Texts.{then, put-as, told-short}
 use Rattle.lines.specs.declared.Told.the-variants as Says
 use Rattle.steps.proofs.Cases.{text-found, text-refused}
 use borrow.Author.Needs.{needs}

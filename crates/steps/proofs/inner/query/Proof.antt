@@ -2,7 +2,7 @@ use mathlib.Core.Path.{sym, ap}
 use native.Mathlib.Omega.{arith}
 use Prim.Native.Nat.{_*_, _/_}
 use lib.Seq.{length-take-le}
-use Rattle.lines.proofs.Laws.{put-as}
+use Rattle.lines.proofs.Texts.{put-as}
 use Rattle.steps.specs.Memory.{memoryOf, zeroF}
 use Rattle.steps.specs.Steps.{foundText}
 use Rattle.steps.proofs.Room.{taken, few-words, few-layers}

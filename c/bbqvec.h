@@ -75,9 +75,9 @@ extern "C" {
 /* The version of this header, and of the library that goes with it. It is raised when a call's arguments change, or what
    they mean: MAJOR, or MINOR while MAJOR is 0. So compile and link with the same MAJOR and MINOR. */
 #define BBQVEC_VERSION_MAJOR 0
-#define BBQVEC_VERSION_MINOR 1
+#define BBQVEC_VERSION_MINOR 2
 #define BBQVEC_VERSION_PATCH 0
-#define BBQVEC_VERSION "0.1.0"
+#define BBQVEC_VERSION "0.2.0"
 
 /* The numbers that the calls below give. No call gives another. */
 enum bbq_refusal {

@@ -115,22 +115,27 @@ int bbq_index_scan(const bbq_index *index, const float *target, size_t target_le
     return put_list(refusal, ids, scores, counts, list);
 }
 
+/* No basis was set, and nothing was added or merged in. */
+static int fresh(const bbq_index *index) {
+    return !index->chosen && !index->settled;
+}
+
 int bbq_index_merge(bbq_index *index, const bbq_index *other) {
     size_t bytes = index->bases_len * sizeof *index->bases;
-    int fresh = !index->chosen && !index->settled;
+    int takes_over = fresh(index);
     uint32_t refusal;
     if (index == other)
         return BBQ_SAME_INDEX;
     /* The lengths alone do not tell: two geometries may have the same. */
     if (index->d != other->d || index->n != other->n || index->cap != other->cap || index->mode != other->mode)
         return BBQ_OTHER_GEOMETRY;
-    if (!fresh && memcmp(index->bases, other->bases, bytes) != 0)
+    if (!takes_over && !fresh(other) && memcmp(index->bases, other->bases, bytes) != 0)
         return BBQ_OTHER_BASES;
     refusal = bbq_merge(LEND(index, faces), LEND(index, marks), LEND(index, vectors),
                         LEND(other, faces), LEND(other, marks), LEND(other, vectors), GEOMETRY(index));
     if (refusal != BBQ_OK)
         return (int)refusal;
-    if (fresh)
+    if (takes_over)
         memcpy(index->bases, other->bases, bytes);
     index->chosen |= other->chosen;
     index->settled |= other->settled;

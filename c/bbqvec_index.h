@@ -85,9 +85,9 @@ int bbq_index_search(bbq_index *index, const float *target, size_t target_len, s
 /* The same over every vector that is held. Refuses 2, 4, 5. */
 int bbq_index_scan(const bbq_index *index, const float *target, size_t target_len, size_t k, bbq_list *list);
 
-/* Joins another index, which stays as it is, to this one. Their bases have to be the same, bit by bit, but for one case: an
-   index in which no basis was set and to which nothing was added or merged takes the other's bases over. Refuses
-   BBQ_SAME_INDEX, BBQ_OTHER_GEOMETRY, BBQ_OTHER_BASES, then 11 for an id that both hold. */
+/* Joins another index, which stays as it is, to this one. Their bases have to be the same, bit by bit, but where one of the two
+   is fresh, with no basis set and nothing added or merged in: a fresh index takes the other's bases over, and a fresh other
+   joins nothing. Refuses BBQ_SAME_INDEX, BBQ_OTHER_GEOMETRY, BBQ_OTHER_BASES, then 11 for an id that both hold. */
 int bbq_index_merge(bbq_index *index, const bbq_index *other);
 
 /* 1 if a vector is held under the id, else 0. */

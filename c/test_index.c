@@ -214,7 +214,7 @@ static void on_merging(void) {
     CHECK(bbq_index_set_basis(other, 0, negative, 4) == BBQ_OK && bbq_index_merge(other, first) == BBQ_OTHER_BASES && bbq_index_len(other) == 0);
     bbq_index_close(other);
     other = opened(2, 1, 64, 0);
-    CHECK(bbq_index_merge(first, other) == BBQ_OTHER_BASES && same(first, whole));
+    CHECK(bbq_index_merge(first, other) == BBQ_OK && same(first, whole)); /* a fresh other joins nothing */
     CHECK(add(other, 9, 1.0f, 0.0f) == BBQ_OK && bbq_index_merge(other, first) == BBQ_OTHER_BASES && bbq_index_len(other) == 1);
     bbq_index_close(other);
 
@@ -233,7 +233,7 @@ static void on_merging(void) {
     fresh = opened(2, 1, 64, 0);
     before = opened(2, 1, 64, 0);
     CHECK(bbq_index_merge(fresh, before) == BBQ_OK && bbq_index_merge(fresh, other) == BBQ_OK && same(fresh, other));
-    CHECK(bbq_index_merge(fresh, before) == BBQ_OTHER_BASES);
+    CHECK(bbq_index_merge(fresh, before) == BBQ_OK && same(fresh, other)); /* a fresh other joins nothing, and changes no basis */
     CHECK(bbq_index_set_basis(fresh, 0, askew, 4) == BBQ_OK && bbq_index_merge(fresh, other) == BBQ_OTHER_BASES);
     bbq_index_close(before);
     bbq_index_close(fresh);

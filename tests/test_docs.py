@@ -231,6 +231,18 @@ class Readme(unittest.TestCase):
         self.assertIn(rust.strip(), read("rust", "bbqvec", "README.md"))
 
 
+class Version(unittest.TestCase):
+    def test_one_version_everywhere(self):
+        """The newest entry of the changes, the header, the wrapper and the script say the same."""
+        told = {
+            "CHANGELOG.md": re.search(r"^## (\d+\.\d+\.\d+)$", read("CHANGELOG.md"), re.M).group(1),
+            "c/bbqvec.h": re.search(r'^#define BBQVEC_VERSION "(.*)"$', read("c", "bbqvec.h"), re.M).group(1),
+            "rust/bbqvec/Cargo.toml": re.search(r'^version = "(.*)"$', read("rust", "bbqvec", "Cargo.toml"), re.M).group(1),
+            "search": re.search(r"^version=(.*)$", read("search"), re.M).group(1),
+        }
+        self.assertEqual(1, len(set(told.values())), told)
+
+
 class Words(unittest.TestCase):
     def test_pages_speak_of_the_project_alone(self):
         for page in [*PAGES, ROOT / "tools" / "paths"]:

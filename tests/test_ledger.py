@@ -44,6 +44,42 @@ def rows():
             yield call.group(1), re.findall(r"\w+(?:-\w+)?", cells[4])
 
 
+def laws():
+    """The fields of each crate's record Laws, as {crate: [field]}."""
+    told = {}
+    for crate in listed_crates():
+        specs = ROOT / "crates" / crate / "specs" / "Laws.antt"
+        if specs.exists():
+            record = specs.read_text(encoding="utf-8").split("pub record Laws", 1)[1]
+            told[crate] = re.findall(r"^  pub ([\w'-]+) :", record, re.M)
+    return told
+
+
+def law_rows():
+    """What the ledger's rows of laws name, as {crate: [field]}."""
+    return {crate: re.findall(r"`([\w'-]+)`", cells) for crate, cells in re.findall(r"^\| `(\w+)::laws` \|(.*?)\| `Laws` \|", LEDGER, re.M)}
+
+
+class Laws(unittest.TestCase):
+    def test_every_record_is_claimed(self):
+        """By a function of its crate whose `ensures` is the record, and that has no `requires`."""
+        for crate in laws():
+            with self.subTest(crate=crate):
+                source = (ROOT / "crates" / crate / "src" / "lib.rt").read_text(encoding="utf-8")
+                self.assertRegex(source, r"pub fn laws\(\)\s*ensures \{ λ _\. ⌜ Laws ⌝ \}\s*\{\s*\}")
+
+    def test_the_ledger_names_every_law_and_no_other(self):
+        self.assertEqual({crate: sorted(fields) for crate, fields in laws().items()}, {crate: sorted(fields) for crate, fields in law_rows().items()})
+
+    def test_names_that_documents_give_to_laws_are_fields(self):
+        """A name in backquotes with a hyphen and no other mark, in a page of the auditor's, is a law: nothing else here is written so."""
+        there = {field for fields in laws().values() for field in fields}
+        for page in ("PROMISES.md", "RULES.md", "DECISIONS.md", "DIFFERENCES.md"):
+            text = (ROOT / "docs" / page).read_text(encoding="utf-8")
+            with self.subTest(page=page):
+                self.assertEqual([], sorted(set(re.findall(r"`([a-z]+(?:-[a-z]+)+)`", text)) - there))
+
+
 class Ledger(unittest.TestCase):
     def test_every_public_call_has_a_row(self):
         told = {name for name, _ in rows()}

@@ -19,7 +19,7 @@ use Rattle.faces.specs.Answer.{faceNumber, Spilling, spillOf}
 use Rattle.faces.specs.Slots.{faceOf, facesOf, afterOf, picksOf}
 use Rattle.faces.specs.declared.Facing.{Facing}
 use Rattle.faces.specs.declared.Facing.the-variants as Facing
-use Rattle.faces.proofs.Laws.{picks-within}
+use Rattle.faces.proofs.Slots.{picks-within}
 use Rattle.capi_vectors.specs.Single.{Single, single, kept, intoOne, laidOver}
 use Rattle.capi_vectors.specs.Projections.{dimsOk, faceInto, numberPut, facePut, Spilt, spilt, intoFaces, spillInto}
 use Rattle.capi_vectors.proofs.Singles.{one-length, one-done}

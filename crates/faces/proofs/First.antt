@@ -13,7 +13,7 @@ use lib.ListN.{length, getD}
 use lib.Ieee.{Float, nan, binary32, fits}
 use Rattle.paper.specs.Choice.{pick}
 use Rattle.vector.specs.Finite.{isFinite}
-use Rattle.vector.proofs.Laws.{every-all, every-some}
+use Rattle.vector.proofs.Vectors.{every-all, every-some}
 use Rattle.faces.specs.Best.{beats, firstFrom, unbeaten, bestOf}
 use Rattle.faces.proofs.Rank.{rank, beats-is}
 

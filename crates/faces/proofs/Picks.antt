@@ -11,7 +11,7 @@ use lib.Ieee.{Float, nan}
 use Rattle.vector.specs.Fold.{zero32}
 use Rattle.faces.specs.Best.{positive, bestOf}
 use Rattle.faces.specs.Slots.{facing, slotFor, faceOf, slotOf, pickedOf, facesOf, afterOf}
-use Rattle.faces.proofs.Laws.{slot-is}
+use Rattle.faces.proofs.Slots.{slot-is}
 
 -- at the best index: the face, the slot, and what a pick leaves
 module _ (w : List Float) (b : ℕ) (B : b ≡ bestOf w) where

@@ -3,7 +3,7 @@ use mathlib.Core.Path.{sym, _∙_}
 use native.Mathlib.Omega.{arith}
 use lib.ListN.{length}
 use Rattle.faces.specs.Slots.{Facable}
-use Rattle.faces.proofs.Laws.{picks-within}
+use Rattle.faces.proofs.Slots.{picks-within}
 use Rattle.faces.proofs.Answer.{facable, spill-refused, spill-done}
 use borrow.Author.Needs.{needs}
 use Rattle.faces.proofs.spill_faces.Statement.{statement}

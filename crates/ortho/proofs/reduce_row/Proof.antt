@@ -6,7 +6,7 @@ use native.Mathlib.Nat.{sub-zero}
 use native.Mathlib.Omega.{arith}
 use lib.ListN.{length, length-set}
 use Rattle.ortho.specs.Ortho.{reduced}
-use Rattle.ortho.proofs.Laws.{reduced-step, reduced-end}
+use Rattle.ortho.proofs.Loops.{reduced-step, reduced-end}
 use Rattle.ortho.proofs.reduce_row.Statement.{statement}
 use Rattle.ortho.proofs.reduce_row.Tie as tie
 

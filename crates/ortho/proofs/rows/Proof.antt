@@ -6,7 +6,7 @@ use native.Mathlib.Omega.{arith}
 use borrow.Author.Tests.{not-true, not-false}
 use lib.ListN.{length}
 use Rattle.ortho.specs.Ortho.{rowsOf}
-use Rattle.ortho.proofs.Laws.{rows-more, rows-fail, rows-end, row-within}
+use Rattle.ortho.proofs.Loops.{rows-more, rows-fail, rows-end, row-within}
 use Rattle.ortho.proofs.rows.Statement.{statement}
 use Rattle.ortho.proofs.rows.Tie as tie
 

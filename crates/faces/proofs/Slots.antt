@@ -12,7 +12,7 @@ use lib.Ieee.{Float, nan, ofBits}
 use Rattle.paper.specs.Choice.{pick}
 use Rattle.vector.specs.Fold.{zero32}
 use Rattle.vector.specs.Finite.{isFinite, allFinite}
-use Rattle.vector.proofs.Laws.{every-set}
+use Rattle.vector.proofs.Vectors.{every-set}
 use Rattle.faces.specs.Best.{positive, bestOf}
 use Rattle.faces.specs.Slots.{facing, faceOf, slotOfFace, slotFor, slotOf, pickedOf, slots, facesOf, afterOf, picksOf}
 use Rattle.faces.proofs.First.{best-low}

@@ -85,5 +85,4 @@ pub fn spill_faces(projection: &mut [f32], spill: usize) -> Spilled
 // The laws of this crate, claimed: specs/Laws.antt says each of them.
 pub fn laws()
     ensures { λ _. ⌜ Laws ⌝ }
-{
-}
+{}

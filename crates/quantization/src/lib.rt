@@ -79,5 +79,4 @@ pub fn unmarshal(mode: usize, array: &[u8], out: &mut [f32]) -> u32
 // The laws of this crate, claimed: specs/Laws.antt says each of them.
 pub fn laws()
     ensures { λ _. ⌜ Laws ⌝ }
-{
-}
+{}

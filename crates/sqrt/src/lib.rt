@@ -164,5 +164,4 @@ pub fn sqrt(x: f32) -> f32
 // The laws of this crate, claimed: specs/Laws.antt says each of them.
 pub fn laws()
     ensures { λ _. ⌜ Laws ⌝ }
-{
-}
+{}

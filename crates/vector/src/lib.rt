@@ -111,5 +111,4 @@ pub fn normalize(vec: &mut [f32]) -> u32
 // The laws of this crate, claimed: specs/Laws.antt says each of them.
 pub fn laws()
     ensures { λ _. ⌜ Laws ⌝ }
-{
-}
+{}

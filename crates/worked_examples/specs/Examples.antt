@@ -14,9 +14,9 @@ use Rattle.faces.specs.declared.FaceAnswer.{FaceAnswer}
 use Rattle.faces.specs.declared.FaceAnswer.the-variants.{Face}
 use Rattle.bitmaps.specs.Words.{inserted, empty}
 use Rattle.bitmaps.specs.Walk.{idsOf}
-use Rattle.counting_bitmap.specs.Layers.{layer, mergedAll}
+use Rattle.counting_bitmap.specs.Layers.{layer, merged, mergedAll}
 use Rattle.counting_bitmap.specs.TopLayer.{topOf}
-use Rattle.counting_bitmap.specs.Answers.{layersFault, ChosenIs}
+use Rattle.counting_bitmap.specs.Answers.{mergeFault, layersFault, ChosenIs}
 use Rattle.counting_bitmap.specs.declared.Chosen.{Chosen}
 use Rattle.counting_bitmap.specs.declared.Chosen.the-variants.{Layer, Refused}
 use Rattle.result.specs.Ranked.{Entry, entry}
@@ -70,6 +70,11 @@ abbrev pub setOf : List ℕ → List ℕ
 setOf [] = empty 1
 setOf (i ∷ is) = inserted (setOf is) i
 
+-- the sets merged in turn into these n layers: no merge is refused
+abbrev pub Accepted : ℕ → List ℕ → List (List ℕ) → Type 0
+Accepted n ls [] = Unit
+Accepted n ls (s ∷ ss) = (mergeFault 64 n (length ls) (length s) ≡ 0) × Accepted n (merged n 1 ls s) ss
+
 -- layer j and those after it hold the ids listed
 abbrev pub LayersAre : List ℕ → ℕ → List (List ℕ) → Type 0
 LayersAre ls j [] = Unit
@@ -88,7 +93,10 @@ Holds (root b q) = Sqrt b q
 Holds (half b h) = lowered b ≡ h
 Holds (face bits r) = FaceIs r (faceNumber (floats bits)) (faceOf (floats bits))
 Holds (spill bits s fs after) = spilling (listed 0 (length fs) fs) (floats after) ≡ spillOf s (floats bits)
-Holds (layers sets ls ps) = LayersAre (mergedAll (length sets) 1 (empty (length sets)) (map setOf sets)) 0 ls × Picks (length sets) (mergedAll (length sets) 1 (empty (length sets)) (map setOf sets)) ps
+Holds (layers sets ls ps) =
+    let n = length sets in
+    let after = mergedAll n 1 (empty n) (map setOf sets) in
+    Accepted n (empty n) (map setOf sets) × LayersAre after 0 ls × Picks n after ps
 Holds (feeds k given list c) = Leaves k (map entryOf given) (map entryOf list) c
 
 abbrev pub All : List Example → Type 0

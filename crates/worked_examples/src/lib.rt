@@ -5,5 +5,4 @@ ghost use Rattle.worked_examples.specs.Examples.{Laws};
 // P1 to P12 hold, in one claim.
 pub fn laws()
     ensures { λ _. ⌜ Laws ⌝ }
-{
-}
+{}

@@ -17,7 +17,7 @@ use Rattle.bitmaps.specs.Words.{byWord, size}
 use Rattle.bitmaps.specs.Walk.{idsIn}
 use Rattle.counting_bitmap.specs.Layers.{merged, mergedAll}
 use Rattle.counting_bitmap.specs.TopLayer.{topOf}
-use Rattle.counting_bitmap.specs.Answers.{layersOk, layersFault}
+use Rattle.counting_bitmap.specs.Answers.{layersOk, mergeFault, layersFault}
 use Rattle.result.specs.Ranked.{fed}
 use Rattle.result.proofs.Leaves.{leaves}
 use Rattle.worked_examples.specs.Examples.{examples, All}
@@ -29,7 +29,7 @@ rooted : (b q : ℕ) → b < 0x1_0000_0000 → rootOf b ≡ q → Sqrt b q
 rooted b q h e = subst (Sqrt b) e (root-of b h)
 
 hold : All examples
-unfolding rootOf lowered nanBits faceNumber faceOf spillOf facesOf pickedOf afterOf picksOf bestOf firstFrom every beats lt eq neg ofBits isNan mergedAll merged byWord idsIn layersFault layersOk capOk topOf size ones fed
+unfolding rootOf lowered nanBits faceNumber faceOf spillOf facesOf pickedOf afterOf picksOf bestOf firstFrom every beats lt eq neg ofBits isNan mergedAll merged byWord idsIn mergeFault layersFault layersOk capOk topOf size ones fed
 hold = (
   rooted _ _ (omega arith) refl,
   (
@@ -50,6 +50,7 @@ hold = (
                   refl,
                   (
                     (
+                      (refl, (refl, (refl, tt))),
                       (refl, (refl, (refl, tt))),
                       (record { answer = refl; refusal = refl; value = refl }, (record { answer = refl; refusal = refl; value = refl }, (record { answer = refl; refusal = refl; value = refl }, tt))),
                     ),

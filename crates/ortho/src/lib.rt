@@ -5,6 +5,7 @@ ghost use Prim.Native.Nat.{_+_, _*_, _-_, _<_, _≤_};
 ghost use lib.ListN.{length, replicate};
 ghost use Rattle.vector.specs.Fold.{dotOf, zero32};
 ghost use Rattle.ortho.specs.Ortho.{row, reduced, normRow, pairOf, rowsOf, roundOf, roundsOf, told, written, orthonormalized};
+ghost use Rattle.ortho.specs.Laws.{Laws};
 
 // Normalises the row at a. False where that is refused.
 fn normalize_row(out: &mut [f32], a: usize, d: usize) -> bool
@@ -149,3 +150,8 @@ pub fn orthonormalize(basis: &[f32], out: &mut [f32], d: usize, rounds: usize) -
     }
     0
 }
+
+// The laws of this crate, claimed: specs/Laws.antt says each of them.
+pub fn laws()
+    ensures { λ _. ⌜ Laws ⌝ }
+{}

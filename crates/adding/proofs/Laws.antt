@@ -18,10 +18,10 @@ use Rattle.index_memory.proofs.Places.{place, face-bit-word, face-bit-digit}
 use Rattle.bitmaps.specs.Words.{has}
 use Rattle.vector.specs.Finite.{allFinite}
 use Rattle.vector.specs.Norm.{normNumber, normOf, normalized}
-use Rattle.vector.proofs.Laws.{length-normalized}
-use Rattle.basis.proofs.Laws.{length-projected}
+use Rattle.vector.proofs.Vectors.{length-normalized}
+use Rattle.basis.proofs.Projections.{length-projected}
 use Rattle.faces.specs.Slots.{slotOf}
-use Rattle.faces.proofs.Laws.{slot-low}
+use Rattle.faces.proofs.Slots.{slot-low}
 use Rattle.quantization.specs.Stored.{lowerBytes, components, restored, Fit}
 use Rattle.quantization.proofs.Stored.{components-back}
 use Rattle.basis.specs.Bases.{basisAt, projectionAt, projectionsFinite}

@@ -1,3 +1,3 @@
-pub mod Laws
+pub mod Projections
 pub mod Sides
 pub mod Bases

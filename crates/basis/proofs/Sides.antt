@@ -9,7 +9,7 @@ use lib.ListN.{length, getD, set, take, drop, length-set}
 use lib.Seq.{take-suc-set, take-all}
 use lib.Ieee.{Float, nan}
 use Rattle.vector.specs.Fold.{dotStep, dotOf, zero32}
-use Rattle.vector.proofs.Laws.{fold2-walk, fold2-done, fold2-take}
+use Rattle.vector.proofs.Vectors.{fold2-walk, fold2-done, fold2-take}
 use Rattle.basis.specs.declared.inner.Four.{Four}
 use Rattle.basis.specs.Project.{dotsFrom, projected, rowsFrom}
 use Rattle.basis.specs.Four.{four, columnOf, foldFour, dotFour, setFour}

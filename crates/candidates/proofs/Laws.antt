@@ -14,7 +14,7 @@ use Rattle.counting_bitmap.specs.Layers.{empty, layer, times, Sized, none, more
 use Rattle.counting_bitmap.proofs.Counting.{counts}
 use Rattle.counting_bitmap.proofs.Dropped.{drops-nothing}
 use Rattle.faces.specs.Slots.{slotOf, pickedOf, slots, picksOf}
-use Rattle.faces.proofs.Laws.{slot-low, length-picked, slots-begin, picks-more}
+use Rattle.faces.proofs.Slots.{slot-low, length-picked, slots-begin, picks-more}
 use Rattle.candidates.specs.Gathering.{faceSet, joined, unionOf, Lent, facesAt, targetOn, unionAt, unionsFrom, layersOf, droppedOf}
 
 -- ---- the union of a basis

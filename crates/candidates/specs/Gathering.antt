@@ -11,7 +11,7 @@ use Rattle.counting_bitmap.specs.Layers.{empty, merged, fallen, mergedAll, drop
 use Rattle.vector.specs.Finite.{allFinite}
 use Rattle.basis.specs.Project.{projected}
 use Rattle.basis.specs.Bases.{projectionAt, projectionsFinite}
-use Rattle.faces.specs.Slots.{slots, Facable}
+use Rattle.faces.specs.Slots.{slots, HasFace}
 use Rattle.candidates.specs.declared.Gathered.{Gathered}
 
 -- ---- one basis
@@ -75,7 +75,7 @@ droppedOf n q = droppedAll n (q .w) (empty (n * q .w)) (unionsFrom q n 0)
 pub record SpillArgs (lf w : ℕ) (p : List Float) : Type 0 where
   pub w-high : w ≤ 1024
   pub faces : lf ≡ 2 * length p * w
-  pub facable : Facable p
+  pub facable : HasFace p
 
 pub record BasisArgs (n lb lf lt lw ll w : ℕ) : Type 0 where
   pub d-low : 1 ≤ lt

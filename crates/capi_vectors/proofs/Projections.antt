@@ -14,12 +14,12 @@ use Rattle.paper.proofs.Choice.{and-r}
 use Rattle.vector.specs.Answer as Numbers
 use Rattle.vector.specs.declared.Number.{Number}
 use Rattle.vector.specs.declared.Number.the-variants.{Value, Refused}
-use Rattle.faces.specs.Answer as Facings
+use Rattle.faces.specs.Answer as FaceAnswers
 use Rattle.faces.specs.Answer.{faceNumber, Spilling, spillOf}
 use Rattle.faces.specs.Slots.{faceOf, facesOf, afterOf, picksOf}
-use Rattle.faces.specs.declared.Facing.{Facing}
-use Rattle.faces.specs.declared.Facing.the-variants as Facing
-use Rattle.faces.proofs.Laws.{picks-within}
+use Rattle.faces.specs.declared.FaceAnswer.{FaceAnswer}
+use Rattle.faces.specs.declared.FaceAnswer.the-variants as FaceAnswer
+use Rattle.faces.proofs.Slots.{picks-within}
 use Rattle.capi_vectors.specs.Single.{Single, single, kept, intoOne, laidOver}
 use Rattle.capi_vectors.specs.Projections.{dimsOk, faceInto, numberPut, facePut, Spilt, spilt, intoFaces, spillInto}
 use Rattle.capi_vectors.proofs.Singles.{one-length, one-done}
@@ -33,10 +33,10 @@ number-put num x ys = by (eqb num 0) refl
     by true h = ap (λ (n : ℕ). single n (x ∷ [])) (sym (eqb-true num 0 h))
     by false h = refl
 
-face-put : (num : ℕ) (f : ℤ) (ys : List ℤ) → facePut (Facings.answer num f) ys ≡ kept num f ys
+face-put : (num : ℕ) (f : ℤ) (ys : List ℤ) → facePut (FaceAnswers.answer num f) ys ≡ kept num f ys
 face-put num f ys = by (eqb num 0) refl
   where
-    by : (b : Bool) → eqb num 0 ≡ b → facePut (pick b (Facing.Face f) (Facing.Refused num)) ys ≡ single num (pick b (f ∷ []) ys)
+    by : (b : Bool) → eqb num 0 ≡ b → facePut (pick b (FaceAnswer.Face f) (FaceAnswer.Refused num)) ys ≡ single num (pick b (f ∷ []) ys)
     by true h = ap (λ (n : ℕ). single n (f ∷ [])) (sym (eqb-true num 0 h))
     by false h = refl
 
@@ -54,10 +54,10 @@ module _ (w : List Float) (ys : List ℤ) where
   unfolding faceInto
   face-length h l = rw h (one-length (faceNumber w) (faceOf w) ys l)
 
-  pub face-done : (a : Facing) (s : Single ℤ) → dimsOk (length w) ≡ true → length ys ≡ 1 → Facings.Faces a (faceNumber w) (faceOf w) → s ≡ facePut a ys → s ≡ faceInto w ys
+  pub face-done : (a : FaceAnswer) (s : Single ℤ) → dimsOk (length w) ≡ true → length ys ≡ 1 → FaceAnswers.FaceIs a (faceNumber w) (faceOf w) → s ≡ facePut a ys → s ≡ faceInto w ys
   unfolding faceInto
   face-done a s h l q e =
-      rw h (one-done (faceNumber w) (faceOf w) ys l s (e ∙ ap (λ (b : Facing). facePut b ys) (q .case) ∙ face-put (faceNumber w) (faceOf w) ys))
+      rw h (one-done (faceNumber w) (faceOf w) ys l s (e ∙ ap (λ (b : FaceAnswer). facePut b ys) (q .case) ∙ face-put (faceNumber w) (faceOf w) ys))
 
 -- ---- spilling
 
@@ -66,7 +66,7 @@ count-within : (spill : ℕ) (w : List Float) → spillOf spill w .answer .count
 unfolding spillOf
 count-within spill w = by (eqb (faceNumber w) 0)
   where
-    by : (b : Bool) → pick b (Facings.spilling (Facings.listed 0 (picksOf (length w) spill) (facesOf (picksOf (length w) spill) w)) (afterOf (picksOf (length w) spill) w)) (Facings.spilling (Facings.listed (faceNumber w) 0 []) w) .answer .count ≤ length w
+    by : (b : Bool) → pick b (FaceAnswers.spilling (FaceAnswers.listed 0 (picksOf (length w) spill) (facesOf (picksOf (length w) spill) w)) (afterOf (picksOf (length w) spill) w)) (FaceAnswers.spilling (FaceAnswers.listed (faceNumber w) 0 []) w) .answer .count ≤ length w
     by true = picks-within (length w) spill
     by false = omega arith
 

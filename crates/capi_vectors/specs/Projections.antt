@@ -9,8 +9,8 @@ use lib.ListN.{length}
 use Rattle.paper.specs.Choice.{_and_, pick}
 use Rattle.faces.specs.Slots.{faceOf}
 use Rattle.faces.specs.Answer.{faceNumber, Spilling, spillOf}
-use Rattle.faces.specs.declared.Facing.{Facing}
-use Rattle.faces.specs.declared.Facing.the-variants as Facings
+use Rattle.faces.specs.declared.FaceAnswer.{FaceAnswer}
+use Rattle.faces.specs.declared.FaceAnswer.the-variants as FaceAnswers
 use Rattle.vector.specs.declared.Number.{Number}
 use Rattle.vector.specs.declared.Number.the-variants as Numbers
 use Rattle.capi_vectors.specs.Single.{Single, single, intoOne, laidOver}
@@ -20,9 +20,9 @@ abbrev pub numberPut : Number → List Float → Single Float
 numberPut (Numbers.Value x) ys = single 0 (x ∷ [])
 numberPut (Numbers.Refused num) ys = single num ys
 
-abbrev pub facePut : Facing → List ℤ → Single ℤ
-facePut (Facings.Face f) ys = single 0 (f ∷ [])
-facePut (Facings.Refused num) ys = single num ys
+abbrev pub facePut : FaceAnswer → List ℤ → Single ℤ
+facePut (FaceAnswers.Face f) ys = single 0 (f ∷ [])
+facePut (FaceAnswers.Refused num) ys = single num ys
 
 -- 1 to 1,024 entries
 unfoldable pub dimsOk : ℕ → Bool

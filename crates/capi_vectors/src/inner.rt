@@ -4,7 +4,7 @@ ghost use Prim.Native.Nat.{_≤_};
 ghost use lib.ListN.{length};
 ghost use Rattle.capi_vectors.specs.Single.{single, laidOver};
 ghost use Rattle.capi_vectors.specs.Projections.{dimsOk, numberPut, facePut};
-use faces::Facing;
+use faces::FaceAnswer;
 use vector::Number;
 
 // A number into its place; a refusal keeps it. The answer is the refusal.
@@ -22,16 +22,16 @@ pub fn put_number(answer: Number, out: &mut [f32]) -> u32
 }
 
 // A face into its place; a refusal keeps it.
-pub fn put_face(answer: Facing, out: &mut [i32]) -> u32
+pub fn put_face(answer: FaceAnswer, out: &mut [i32]) -> u32
     requires { ⌜ length (now out) ≡ 1 ⌝ }
     ensures { λ r. ⌜ single r (now (out .exit)) ≡ facePut answer (now (out .entry)) ⌝ }
 {
     match answer {
-        Facing::Face(f) => {
+        FaceAnswer::Face(f) => {
             out[0] = f;
             0
         }
-        Facing::Refused(num) => num,
+        FaceAnswer::Refused(num) => num,
     }
 }
 

@@ -12,15 +12,15 @@ use lib.Ieee.{Float}
 use Rattle.paper.specs.Choice.{_and_}
 use Rattle.paper.proofs.Choice.{and-l, and-r, refuse-ok, refuse-rest}
 use Rattle.vector.specs.Finite.{allFinite}
-use Rattle.faces.specs.Slots.{facesOf, afterOf, picksOf, Facable}
-use Rattle.faces.specs.Answer.{faceNumber, Faces, spilling, spillOf}
-use Rattle.faces.specs.declared.Facing.{Facing}
-use Rattle.faces.specs.declared.Facing.the-variants.{Face, Refused}
+use Rattle.faces.specs.Slots.{facesOf, afterOf, picksOf, HasFace}
+use Rattle.faces.specs.Answer.{faceNumber, FaceIs, spilling, spillOf}
+use Rattle.faces.specs.declared.FaceAnswer.{FaceAnswer}
+use Rattle.faces.specs.declared.FaceAnswer.the-variants.{Face, Refused}
 
 -- a projection that is not refused has a face
-pub facable : (w : List Float) → faceNumber w ≡ 0 → Facable w
+pub has-face : (w : List Float) → faceNumber w ≡ 0 → HasFace w
 unfolding faceNumber
-facable w h =
+has-face w h =
     let s = refuse-ok (leb 1 (length w) and leb (length w) 1024) 1 _ (λ e. omega arith) h in
     let r = refuse-rest (leb 1 (length w) and leb (length w) 1024) 1 _ (λ e. omega arith) h in
     record {
@@ -30,18 +30,18 @@ facable w h =
     }
 
 module _ (num n : ℕ) (f g : ℤ) (e : n ≡ num) where
-  pub said-face : n ≡ 0 → g ≡ f → Faces (Face g) num f
+  pub said-face : n ≡ 0 → g ≡ f → FaceIs (Face g) num f
   said-face z p =
       let q = eq-eqb num 0 (sym e ∙ z) in
       record { refusal = sym z ∙ e; face = rw q p; case = rw q (ap Face p) }
 
-  pub said-refusal : (n ≡ 0 → ⊥) → Faces (Refused n) num f
+  pub said-refusal : (n ≡ 0 → ⊥) → FaceIs (Refused n) num f
   said-refusal h =
       let q = ne-eqb num 0 (λ z. h (e ∙ z)) in
       record { refusal = e; face = rw q; case = rw q (ap Refused e) }
 
 -- two answers to the same are equal
-pub one-answer : (r s : Facing) (num : ℕ) (f : ℤ) → Faces r num f → Faces s num f → r ≡ s
+pub one-answer : (r s : FaceAnswer) (num : ℕ) (f : ℤ) → FaceIs r num f → FaceIs s num f → r ≡ s
 one-answer r s num f p q = p .case ∙ sym (q .case)
 
 drop-zeros : (n m : ℕ) (z : ℤ) → drop n (replicate m z) ≡ replicate (m - n) z

@@ -1,8 +1,9 @@
 -- The first entry that none beats, found by ranks. Assumes nothing.
-use mathlib.Core.Path.{_≡_, sym, _∙_, ap}
+use mathlib.Core.Path.{_≡_, refl, sym, _∙_, ap, subst}
 use mathlib.Core.Bool.{Bool, true, false, not}
 use mathlib.Core.List.{List, [], _∷_}
 use Prim.Native.Nat.{ℕ, zero, suc, _+_, _<_, _≤_, zero-le, suc-le-suc}
+use native.Mathlib.Numerals.{add-one}
 use native.Mathlib.Nat.{not-suc-le-zero, le-of-suc-le-suc, lt-trans, le-trans, le-of-lt, lt-of-le-of-lt, le-refl, zero-add, add-zero}
 use native.Mathlib.Omega.{arith}
 use lib.Arith.{lt-one}
@@ -13,8 +14,8 @@ use lib.ListN.{length, getD}
 use lib.Ieee.{Float, nan, binary32, fits}
 use Rattle.paper.specs.Choice.{pick}
 use Rattle.vector.specs.Finite.{isFinite}
-use Rattle.vector.proofs.Laws.{every-all, every-some}
-use Rattle.faces.specs.Best.{beats, firstFrom, unbeaten, bestOf}
+use Rattle.vector.proofs.Vectors.{every-all, every-some}
+use Rattle.faces.specs.Best.{beats, firstFrom, unbeaten, bestOf, First}
 use Rattle.faces.proofs.Rank.{rank, beats-is}
 
 module _ (p : Float → Bool) where
@@ -75,3 +76,34 @@ module _ (xs : List Float) (F : (k : ℕ) → k < length xs → T (isFinite (get
 
   pub step-no : beats (getD xs i nan) (getD xs b nan) ≡ false → Best xs b (i + 1)
   step-no t = (omega arith, omega arith, below-more _ i (B .2) (ltb-false _ _ (sym (beats-at xs F H i b l (lt-trans (B .0) l)) ∙ t)), B .3)
+
+-- ---- a list of finite floats always has such an entry, so the definition's fallback is never reached
+
+module _ (xs : List Float) (F : (k : ℕ) → k < length xs → T (isFinite (getD xs k nan))) (H : (k : ℕ) → T (fits binary32 (getD xs k nan))) where
+  walk : (n : ℕ) → n < length xs → (b : ℕ) × Best xs b (suc n)
+  walk zero h = (0, start xs h)
+  walk (suc n) h = more (walk n (omega arith))
+    where
+      more : (b : ℕ) × Best xs b (suc n) → (b : ℕ) × Best xs b (suc (suc n))
+      more (b, B) = go (beats (getD xs (suc n) nan) (getD xs b nan)) refl
+        where
+          go : (t : Bool) → beats (getD xs (suc n) nan) (getD xs b nan) ≡ t → (b : ℕ) × Best xs b (suc (suc n))
+          go true e = (suc n, subst (λ (i : ℕ). Best xs (suc n) i) (add-one (suc n)) (step-yes xs F H b (suc n) B h e))
+          go false e = (b, subst (λ (i : ℕ). Best xs b i) (add-one (suc n)) (step-no xs F H b (suc n) B h e))
+
+  first-of : (b : ℕ) → Best xs b (length xs) → First xs b
+  first-of b B = record {
+    low = B .0;
+    best = every-all (λ (y : Float). not (beats y (getD xs b nan))) xs (λ k l. ap not (beats-at xs F H k b l (B .0) ∙ le-ltb _ _ (B .2 k l)));
+    first = λ k l. beats-at xs F H b k (B .0) (lt-trans l (B .0)) ∙ lt-ltb _ _ (B .3 k l);
+  }
+
+  best-first-at : (n : ℕ) → suc n ≡ length xs → First xs (bestOf xs)
+  best-first-at n e =
+      let w = walk n (omega arith) in
+      let B : Best xs (w .0) (length xs) = subst (Best xs (w .0)) e (w .1) in
+      subst (First xs) (sym (best-is xs F H (w .0) (B .0) (B .2) (B .3))) (first-of (w .0) B)
+
+pub best-first : (xs : List Float) → 1 ≤ length xs → ((k : ℕ) → k < length xs → T (isFinite (getD xs k nan))) → ((k : ℕ) → T (fits binary32 (getD xs k nan))) → First xs (bestOf xs)
+best-first [] h F H = absurd (not-suc-le-zero h)
+best-first (x ∷ xs) h F H = best-first-at (x ∷ xs) F H (length xs) refl

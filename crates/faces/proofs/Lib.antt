@@ -1,5 +1,5 @@
 pub mod Rank
 pub mod First
-pub mod Laws
+pub mod Slots
 pub mod Picks
 pub mod Answer

@@ -10,12 +10,12 @@ use lib.Seq.{take-suc-set, drop-set-lt, drop-drop}
 use lib.Ieee.{Float, nan}
 use Rattle.vector.specs.Fold.{zero32}
 use Rattle.faces.specs.Best.{positive, bestOf}
-use Rattle.faces.specs.Slots.{facing, slotFor, faceOf, slotOf, pickedOf, facesOf, afterOf}
-use Rattle.faces.proofs.Laws.{slot-is}
+use Rattle.faces.specs.Slots.{faceFor, slotFor, faceOf, slotOf, pickedOf, facesOf, afterOf}
+use Rattle.faces.proofs.Slots.{slot-is}
 
 -- at the best index: the face, the slot, and what a pick leaves
 module _ (w : List Float) (b : ℕ) (B : b ≡ bestOf w) where
-  pub face-at : (f : ℤ) → f ≡ facing (positive (getD w b nan)) b → f ≡ faceOf w
+  pub face-at : (f : ℤ) → f ≡ faceFor (positive (getD w b nan)) b → f ≡ faceOf w
   unfolding faceOf
   face-at f e = rw B at e
 

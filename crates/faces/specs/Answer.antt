@@ -9,8 +9,8 @@ use lib.Ieee.{Float}
 use Rattle.paper.specs.Choice.{_and_, pick, refuse}
 use Rattle.vector.specs.Finite.{allFinite}
 use Rattle.faces.specs.Slots.{facesOf, afterOf, picksOf}
-use Rattle.faces.specs.declared.Facing.{Facing}
-use Rattle.faces.specs.declared.Facing.the-variants.{Face, Refused}
+use Rattle.faces.specs.declared.FaceAnswer.{FaceAnswer}
+use Rattle.faces.specs.declared.FaceAnswer.the-variants.{Face, Refused}
 use Rattle.faces.specs.declared.Spilled.{Spilled}
 
 -- 1 for a length outside 1 to 1,024, then 7 for an entry that is not finite
@@ -18,23 +18,23 @@ unfoldable pub faceNumber : List Float → ℕ
 faceNumber w = refuse 1 (leb 1 (length w) and leb (length w) 1024) (refuse 7 (allFinite w) 0)
 
 -- the refusal's number that each case stands for: 0 is acceptance
-abbrev pub refusalOf : Facing → ℕ
+abbrev pub refusalOf : FaceAnswer → ℕ
 refusalOf (Face f) = 0
 refusalOf (Refused num) = num
 
 -- the face that each case stands for: a refused face is 0
-abbrev pub faceIn : Facing → ℤ
-faceIn (Face f) = f
-faceIn (Refused num) = pos 0
+abbrev pub faceTold : FaceAnswer → ℤ
+faceTold (Face f) = f
+faceTold (Refused num) = pos 0
 
 -- the answer to a call that gives f unless it refuses `num`
-abbrev pub answer : ℕ → ℤ → Facing
+abbrev pub answer : ℕ → ℤ → FaceAnswer
 answer num f = pick (eqb num 0) (Face f) (Refused num)
 
 -- r is that answer: its refusal, its face, and which case it is
-pub record Faces (r : Facing) (num : ℕ) (f : ℤ) : Type 0 where
+pub record FaceIs (r : FaceAnswer) (num : ℕ) (f : ℤ) : Type 0 where
   pub refusal : refusalOf r ≡ num
-  pub face : faceIn r ≡ pick (eqb num 0) f (pos 0)
+  pub face : faceTold r ≡ pick (eqb num 0) f (pos 0)
   pub case : r ≡ answer num f
 
 -- what spilling answers, and the projection that it leaves

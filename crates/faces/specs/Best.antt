@@ -1,9 +1,11 @@
 -- Which entry of a projection gives its face (01, "Face"): the one of greatest absolute value; of equal ones a positive before a negative; then
 -- the first index. Definitions only.
-use Prim.Native.Nat.{ℕ, zero, suc}
-use mathlib.Core.Bool.{Bool, not, _&&_, _||_}
+use Prim.Native.Nat.{ℕ, zero, suc, _<_}
+use mathlib.Core.Path.{_≡_}
+use mathlib.Core.Bool.{Bool, true, not, _&&_, _||_}
 use mathlib.Core.List.{List, [], _∷_}
-use lib.Ieee.{Float, lt, eq, neg}
+use lib.ListN.{length, getD}
+use lib.Ieee.{Float, nan, lt, eq, neg}
 use Rattle.paper.specs.Choice.{pick}
 use Rattle.vector.specs.Fold.{zero32}
 use Rattle.vector.specs.Finite.{every}
@@ -24,7 +26,7 @@ beats y x = lt (sizeOf x) (sizeOf y) || (eq (sizeOf x) (sizeOf y) && (positive y
 abbrev pub unbeaten : List Float → Float → Bool
 unbeaten xs x = every (λ (y : Float). not (beats y x)) xs
 
--- the first index, counted from i, at which p holds; 0 where there is none
+-- the first index, counted from i, at which p holds; 0 where there is none. (A finite projection has one: law `best-first`.)
 unfoldable pub firstFrom : (Float → Bool) → ℕ → List Float → ℕ
 firstFrom p i [] = zero
 firstFrom p i (x ∷ xs) = pick (p x) i (firstFrom p (suc i) xs)
@@ -32,3 +34,9 @@ firstFrom p i (x ∷ xs) = pick (p x) i (firstFrom p (suc i) xs)
 -- the first entry that none beats
 unfoldable pub bestOf : List Float → ℕ
 bestOf xs = firstFrom (unbeaten xs) zero xs
+
+-- b is the index of the entry that gives the face: one of the list's, whose entry none beats, while it beats each entry before it
+pub record First (xs : List Float) (b : ℕ) : Type 0 where
+  pub low : b < length xs
+  pub best : unbeaten xs (getD xs b nan) ≡ true
+  pub first : (k : ℕ) → k < b → beats (getD xs b nan) (getD xs k nan) ≡ true

@@ -1,3 +1,4 @@
 pub mod Best
 pub mod Slots
 pub mod Answer
+pub mod Laws

@@ -13,12 +13,12 @@ use Rattle.vector.specs.Finite.{allFinite}
 use Rattle.faces.specs.Best.{positive, bestOf}
 
 -- index + 1 where the entry is above 0, else -(index + 1)
-abbrev pub facing : Bool → ℕ → ℤ
-facing up i = pick up (pos (suc i)) (negsuc i)
+abbrev pub faceFor : Bool → ℕ → ℤ
+faceFor up i = pick up (pos (suc i)) (negsuc i)
 
 -- the face of a projection
 unfoldable pub faceOf : List Float → ℤ
-faceOf w = facing (positive (getD w (bestOf w) nan)) (bestOf w)
+faceOf w = faceFor (positive (getD w (bestOf w) nan)) (bestOf w)
 
 -- a face f > 0 has the slot f - 1, a face f < 0 the slot d + |f| - 1
 abbrev pub slotOfFace : ℕ → ℤ → ℕ
@@ -57,7 +57,7 @@ unfoldable pub picksOf : ℕ → ℕ → ℕ
 picksOf d spill = pick (leb d spill) d (spill + 1)
 
 -- a projection that has a face
-pub record Facable (w : List Float) : Type 0 where
+pub record HasFace (w : List Float) : Type 0 where
   pub some : 1 ≤ length w
   pub few : length w ≤ 1024
   pub finite : allFinite w ≡ true

@@ -6,7 +6,7 @@ ghost use mathlib.Core.List.{_++_};
 ghost use Prim.Native.Nat.{_+_, _*_, _<_, _≤_};
 ghost use lib.ListN.{length, drop};
 ghost use Rattle.faces.specs.Best.{sizeOf, beats, bestOf};
-ghost use Rattle.faces.specs.Slots.{facing, slotFor, faceOf, slotOf, pickedOf, facesOf, afterOf, Facable};
+ghost use Rattle.faces.specs.Slots.{faceFor, slotFor, faceOf, slotOf, pickedOf, facesOf, afterOf, HasFace};
 
 // The absolute value.
 fn size_of(x: f32) -> f32
@@ -37,7 +37,7 @@ fn goes_before(y: f32, x: f32) -> bool
 
 // The first index whose entry none goes before.
 fn best_index(projection: &[f32]) -> usize
-    requires { ⌜ Facable (now projection) ⌝ }
+    requires { ⌜ HasFace (now projection) ⌝ }
     ensures { λ r. ⌜ (r < length (now (projection .entry))) × (r ≡ bestOf (now (projection .entry))) ⌝ }
 {
     let mut best = 0;
@@ -54,7 +54,7 @@ fn best_index(projection: &[f32]) -> usize
 // The face of an index.
 fn face_of(b: usize, up: bool) -> i32
     requires { ⌜ b < 1024 ⌝ }
-    ensures { λ r. ⌜ r ≡ facing up b ⌝ }
+    ensures { λ r. ⌜ r ≡ faceFor up b ⌝ }
 {
     let n = (b + 1) as i32;
     if up { n } else { -n }
@@ -70,7 +70,7 @@ fn slot_of(b: usize, up: bool, d: usize) -> usize
 
 // The face of a projection.
 pub fn face(projection: &[f32]) -> i32
-    requires { ⌜ Facable (now projection) ⌝ }
+    requires { ⌜ HasFace (now projection) ⌝ }
     ensures { λ r. ⌜ r ≡ faceOf (now (projection .entry)) ⌝ }
 {
     let b = best_index(projection);
@@ -79,7 +79,7 @@ pub fn face(projection: &[f32]) -> i32
 
 // The slot of a projection.
 pub fn slot(work: &[f32]) -> usize
-    requires { ⌜ Facable (now work) ⌝ }
+    requires { ⌜ HasFace (now work) ⌝ }
     ensures { λ r. ⌜ (r ≡ slotOf (now (work .entry))) × (r < 2 * length (now (work .entry))) ⌝ }
 {
     let b = best_index(work);
@@ -88,7 +88,7 @@ pub fn slot(work: &[f32]) -> usize
 
 // The slot of a projection, whose best entry becomes +0.0.
 pub fn pick(work: &mut [f32]) -> usize
-    requires { ⌜ Facable (now work) ⌝ }
+    requires { ⌜ HasFace (now work) ⌝ }
     ensures { λ r. ⌜ (r ≡ slotOf (now (work .entry))) × (r < 2 * length (now (work .entry))) × (now (work .exit) ≡ pickedOf (now (work .entry))) ⌝ }
 {
     let b = best_index(work);
@@ -99,7 +99,7 @@ pub fn pick(work: &mut [f32]) -> usize
 
 // Picks n faces, one after the other, into the first n places of `out`; each picked entry becomes +0.0.
 pub fn pick_faces(projection: &mut [f32], n: usize, out: &mut [i32])
-    requires { ⌜ Facable (now projection) × (n ≤ length (now out)) ⌝ }
+    requires { ⌜ HasFace (now projection) × (n ≤ length (now out)) ⌝ }
     ensures { λ _. ⌜ (now (projection .exit) ≡ afterOf n (now (projection .entry))) × (now (out .exit) ≡ facesOf n (now (projection .entry)) ++ drop n (now (out .entry))) ⌝ }
 {
     let mut k = 0;

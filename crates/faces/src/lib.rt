@@ -2,12 +2,13 @@
 // The face of a projection is the place of its entry of greatest absolute value, with that entry's sign.
 ghost use mathlib.Core.Path.{_≡_};
 ghost use Rattle.faces.specs.Slots.{faceOf, picksOf};
-ghost use Rattle.faces.specs.Answer.{faceNumber, Faces, spilling, spillOf};
+ghost use Rattle.faces.specs.Answer.{faceNumber, FaceIs, spilling, spillOf};
+ghost use Rattle.faces.specs.Laws.{Laws};
 
 pub mod inner;
 
 // A face, or the number of the refusal.
-pub enum Facing {
+pub enum FaceAnswer {
     Face(i32),
     Refused(u32),
 }
@@ -38,14 +39,14 @@ fn face_refusal(projection: &[f32]) -> u32
 
 // The face of a projection: index + 1 of its greatest entry, or -(index + 1) where that entry is not above 0. Of equal ones a positive comes before a
 // negative, then the first index. Refuses 1 for a length outside 1 to 1,024, then 7 for an entry that is not finite.
-pub fn find_face_idx(projection: &[f32]) -> Facing
-    ensures { λ r. ⌜ Faces r (faceNumber (now (projection .entry))) (faceOf (now (projection .entry))) ⌝ }
+pub fn find_face_idx(projection: &[f32]) -> FaceAnswer
+    ensures { λ r. ⌜ FaceIs r (faceNumber (now (projection .entry))) (faceOf (now (projection .entry))) ⌝ }
 {
     let refusal = face_refusal(projection);
     if refusal != 0 {
-        return Facing::Refused(refusal);
+        return FaceAnswer::Refused(refusal);
     }
-    Facing::Face(inner::face(projection))
+    FaceAnswer::Face(inner::face(projection))
 }
 
 // How many faces a search picks with this spill in d dimensions: spill + 1, and d where spill is at or above d.
@@ -80,3 +81,8 @@ pub fn spill_faces(projection: &mut [f32], spill: usize) -> Spilled
         faces: faces,
     }
 }
+
+// The laws of this crate, claimed: specs/Laws.antt says each of them.
+pub fn laws()
+    ensures { λ _. ⌜ Laws ⌝ }
+{}

@@ -1,1 +1,2 @@
 pub mod Ortho
+pub mod Laws

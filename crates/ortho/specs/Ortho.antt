@@ -1,11 +1,11 @@
 -- Orthonormalising one basis, d vectors (rows) of d components in one list (01, "orthonormalize"). Definitions only.
 use Prim.Native.Nat.{ℕ, zero, suc, _+_, _*_}
 use mathlib.Core.Bool.{Bool, true, false}
-use mathlib.Core.List.{List, _++_}
+use mathlib.Core.List.{List, _++_, zipWith}
 use mathlib.Core.Option.{Option, none, some}
 use lib.Dec.{eqb, leb}
-use lib.ListN.{length, getD, set, take, drop, replicate}
-use lib.Ieee.{Float, nan, binary32, sub, mul}
+use lib.ListN.{length, take, drop, replicate}
+use lib.Ieee.{Float, binary32, sub, mul}
 use Rattle.paper.specs.Choice.{_and_, pick}
 use Rattle.vector.specs.Fold.{dotOf, zero32}
 use Rattle.vector.specs.Finite.{allFinite}
@@ -19,11 +19,13 @@ row a d xs = take d (drop a xs)
 abbrev pub putRow : ℕ → ℕ → List Float → List Float → List Float
 putRow a d r xs = take a xs ++ (r ++ drop (a + d) xs)
 
--- component b + k less t times component a + k, the product rounded and then the difference, for n values of k, rising from k on
-unfoldable pub reduced : ℕ → ℕ → Float → ℕ → ℕ → List Float → List Float
-reduced a b t zero k xs = xs
-reduced a b t (suc n) k xs =
-    reduced a b t n (suc k) (set xs (b + k) (sub binary32 (getD xs (b + k) nan) (mul binary32 t (getD xs (a + k) nan))))
+-- the row ys less t times the row xs, component by component: the product is rounded, then the difference
+abbrev pub lessTimes : Float → List Float → List Float → List Float
+lessTimes t xs ys = zipWith (λ (x y : Float). sub binary32 y (mul binary32 t x)) xs ys
+
+-- the row at b less t times the row at a
+abbrev pub reduced : ℕ → ℕ → ℕ → Float → List Float → List Float
+reduced a b d t xs = putRow b d (lessTimes t (row a d xs) (row b d xs)) xs
 
 -- a step that may be refused, then the next
 abbrev pub andThen : Option (List Float) → (List Float → Option (List Float)) → Option (List Float)
@@ -34,9 +36,9 @@ andThen (some xs) f = f xs
 unfoldable pub normRow : ℕ → ℕ → List Float → Option (List Float)
 normRow a d xs = pick (eqb (normNumber (row a d xs)) 0) (some (putRow a d (normalized (row a d xs)) xs)) none
 
--- the row at b made orthogonal to the row at a, and normalised
+-- the row at b less the two rows' dot product times the row at a, and then normalised
 unfoldable pub pairOf : ℕ → ℕ → ℕ → List Float → Option (List Float)
-pairOf a b d xs = normRow b d (reduced a b (dotOf (row a d xs) (row b d xs)) d 0 xs)
+pairOf a b d xs = normRow b d (reduced a b d (dotOf (row a d xs) (row b d xs)) xs)
 
 -- the n rows from row j on, each against row i
 unfoldable pub rowsOf : ℕ → ℕ → ℕ → ℕ → List Float → Option (List Float)

@@ -5,6 +5,7 @@ ghost use Prim.Native.Nat.{_+_, _*_, _-_, _<_, _≤_};
 ghost use lib.ListN.{length, replicate};
 ghost use Rattle.vector.specs.Fold.{dotOf, zero32};
 ghost use Rattle.ortho.specs.Ortho.{row, reduced, normRow, pairOf, rowsOf, roundOf, roundsOf, told, written, orthonormalized};
+ghost use Rattle.ortho.specs.Laws.{Laws};
 
 // Normalises the row at a. False where that is refused.
 fn normalize_row(out: &mut [f32], a: usize, d: usize) -> bool
@@ -25,10 +26,10 @@ fn dot_rows(out: &[f32], a: usize, b: usize, d: usize) -> f32
     vector::inner::dot_of(&out[a..e], &out[b..f])
 }
 
-// Subtracts dot times the row at a from the row at b.
+// Subtracts dot times the row at a from the row at b, which comes after it.
 fn reduce_row(out: &mut [f32], a: usize, b: usize, d: usize, dot: f32)
-    requires { ⌜ (a + d ≤ length (now out)) × (b + d ≤ length (now out)) ⌝ }
-    ensures { λ _. ⌜ now (out .exit) ≡ reduced a b dot d 0 (now (out .entry)) ⌝ }
+    requires { ⌜ (a + d ≤ b) × (b + d ≤ length (now out)) ⌝ }
+    ensures { λ _. ⌜ now (out .exit) ≡ reduced a b d dot (now (out .entry)) ⌝ }
 {
     let mut k = 0;
     while k < d {
@@ -37,9 +38,9 @@ fn reduce_row(out: &mut [f32], a: usize, b: usize, d: usize, dot: f32)
     }
 }
 
-// Makes the row at b orthogonal to the row at a, and normalises it.
+// Makes the row at b orthogonal to the row at a, which comes before it, and normalises it.
 fn pair(out: &mut [f32], a: usize, b: usize, d: usize) -> bool
-    requires { ⌜ (a + d ≤ length (now out)) × (b + d ≤ length (now out)) ⌝ }
+    requires { ⌜ (a + d ≤ b) × (b + d ≤ length (now out)) ⌝ }
     ensures { λ r. ⌜ pairOf a b d (now (out .entry)) ≡ told r (now (out .exit)) ⌝ }
 {
     let dot = dot_rows(out, a, b, d);
@@ -149,3 +150,8 @@ pub fn orthonormalize(basis: &[f32], out: &mut [f32], d: usize, rounds: usize) -
     }
     0
 }
+
+// The laws of this crate, claimed: specs/Laws.antt says each of them.
+pub fn laws()
+    ensures { λ _. ⌜ Laws ⌝ }
+{}

@@ -15,7 +15,7 @@ use lib.Ieee.Nearest.{closest}
 use borrow.Author.Tests.{lt-ltb, le-ltb}
 use Rattle.paper.specs.Choice.{pick}
 use Rattle.sqrt.specs.Root.{sized, mag}
-use Rattle.sqrt.proofs.Laws.{mag-is, mag-lt}
+use Rattle.sqrt.proofs.Near.{mag-is, mag-lt}
 use Rattle.quantization.specs.Bf16.{lowered, widened, gap, off, Nearest}
 
 -- ---- lib.Ieee's rounding of a fraction, by the order of the two numbers compared

@@ -28,7 +28,8 @@ gap a b = (a - b) + (b - a)
 abbrev pub off : ℕ → ℕ → ℕ
 off b k = gap (mag (k * 65536)) (mag (b % 0x8000_0000))
 
--- h has the sign of b, no half is nearer to b in size, and if another half is as near, h is even
+-- h has the sign of b, no half is nearer to b in size, and if another half is as near, h is even. (A set sign bit negates: law
+-- `sign-negates` of crate sqrt. So nearest in size, with the same sign, is nearest in value.)
 pub record Nearest (b h : ℕ) : Type 0 where
   pub sign : h / 32768 ≡ b / 0x8000_0000
   pub near : (k : ℕ) → off b (h % 32768) ≤ off b k

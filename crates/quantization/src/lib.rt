@@ -3,6 +3,7 @@
 ghost use mathlib.Core.Path.{_≡_};
 ghost use Rattle.quantization.specs.Bf16.{lowered, widened};
 ghost use Rattle.quantization.specs.Copies.{marshalled, marshalOf, unmarshalled, unmarshalOf};
+ghost use Rattle.quantization.specs.Laws.{Laws};
 
 pub mod inner;
 
@@ -74,3 +75,8 @@ pub fn unmarshal(mode: usize, array: &[u8], out: &mut [f32]) -> u32
     }
     0
 }
+
+// The laws of this crate, claimed: specs/Laws.antt says each of them.
+pub fn laws()
+    ensures { λ _. ⌜ Laws ⌝ }
+{}

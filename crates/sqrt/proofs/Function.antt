@@ -11,7 +11,7 @@ use lib.Count.{leadingZeros}
 use borrow.Author.Tests.{le-leb, lt-leb, lt-ltb, le-ltb, eq-eqb, ne-eqb}
 use Rattle.sqrt.specs.Root.{mag, Near, Sqrt}
 use Rattle.sqrt.specs.RootOf.{wholeRoot, rootScaled, rootFields, rootOf}
-use Rattle.sqrt.proofs.Laws.{nearer-above, nearer-below, Scaling, scaling-bounds, rounded-near, is-zero, is-infinity, is-invalid, is-root, sqrt-unique, normal, subnormal, shift-up}
+use Rattle.sqrt.proofs.Near.{nearer-above, nearer-below, Scaling, scaling-bounds, rounded-near, is-zero, is-infinity, is-invalid, is-root, sqrt-unique, normal, subnormal, shift-up}
 
 -- ---- the whole root
 

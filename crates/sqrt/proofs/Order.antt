@@ -16,7 +16,7 @@ use lib.Ieee.Positive.{through}
 use borrow.Author.Tests.{ltb-true, lt-ltb}
 use Rattle.sqrt.specs.Root.{mag, Near, Sqrt}
 use Rattle.sqrt.specs.RootOf.{rootOf}
-use Rattle.sqrt.proofs.Laws.{mag-mono, nearer-above, nearer-below}
+use Rattle.sqrt.proofs.Near.{mag-mono, nearer-above, nearer-below}
 use Rattle.sqrt.proofs.Function.{root-of}
 use Rattle.sqrt.proofs.Values.{value}
 use Rattle.sqrt.proofs.Bits.{reads-nan}

@@ -1,2 +1,4 @@
 pub mod Root
 pub mod RootOf
+pub mod FloatRoot
+pub mod Laws

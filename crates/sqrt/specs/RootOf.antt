@@ -1,5 +1,5 @@
 -- The square root of a binary32 pattern as a function that computes, for the definitions of other crates to cite.
--- That it is the root of specs/Root.antt, and the only one, are the laws `root-of` and `sqrt-is` of proofs/Function.antt.
+-- That it is the root of specs/Root.antt, and the only one, are the laws `root-of` and `sqrt-is` of specs/Laws.antt.
 use Prim.Native.Nat.{ℕ, zero, suc, _+_, _-_, _*_, _/_, _%_, _^_}
 use mathlib.Core.Bool.{cond}
 use lib.Dec.{leb, ltb, eqb}
@@ -30,7 +30,7 @@ rootOf b =
     (cond (eqb b 0x7f80_0000) b
     (cond (ltb b 0x7f80_0000) (rootFields (b / 8388608) (b % 8388608)) 0x7fc0_0000))
 
--- the root of a float, by its pattern
+-- the root of a float, by its pattern: `IsRoot` of specs/FloatRoot.antt says what it is as a float (law `root-nearest`)
 unfoldable pub root : Float → Float
 unfolding rootOf
 root x = ofBits binary32 (rootOf (toBits binary32 x))

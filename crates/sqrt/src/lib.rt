@@ -4,6 +4,7 @@ ghost use Prim.Native.Nat.{_+_, _*_, _^_, _≤_, _<_};
 ghost use lib.Ieee.{binary32, toBits, ofBits};
 ghost use Rattle.sqrt.specs.Root.{Near, Sqrt};
 ghost use Rattle.sqrt.specs.RootOf.{root};
+ghost use Rattle.sqrt.specs.Laws.{Laws};
 
 // The pattern of +infinity: larger patterns below the sign bit are NaN.
 const INFINITY: u32 = 0x7F80_0000;
@@ -159,3 +160,8 @@ pub fn sqrt(x: f32) -> f32
 {
     of_bits(sqrt_bits(bits_of(x)))
 }
+
+// The laws of this crate, claimed: specs/Laws.antt says each of them.
+pub fn laws()
+    ensures { λ _. ⌜ Laws ⌝ }
+{}

@@ -9,7 +9,7 @@ use Rattle.sqrt.specs.RootOf.{root}
 use Rattle.vector.specs.Fold.{dotOf, zero32}
 use Rattle.vector.specs.Finite.{isFinite, every, allFinite}
 
--- the root of the dot product with itself
+-- the root of the dot product with itself. (`root` is the float nearest to the root: law `root-nearest` of crate sqrt.)
 unfoldable pub normOf : List Float → Float
 normOf xs = root (dotOf xs xs)
 

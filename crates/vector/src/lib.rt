@@ -9,6 +9,7 @@ ghost use Rattle.vector.specs.Fold.{dotOf, squaresOf};
 ghost use Rattle.vector.specs.Finite.{isFinite, allFinite};
 ghost use Rattle.vector.specs.Norm.{normNumber, normalized, dividedBy, allFiniteBy, normal};
 ghost use Rattle.vector.specs.Answer.{Answers};
+ghost use Rattle.vector.specs.Laws.{Laws};
 
 pub mod inner;
 
@@ -106,3 +107,8 @@ pub fn normalize(vec: &mut [f32]) -> u32
     divide_all(vec, norm);
     0
 }
+
+// The laws of this crate, claimed: specs/Laws.antt says each of them.
+pub fn laws()
+    ensures { λ _. ⌜ Laws ⌝ }
+{}

@@ -5,7 +5,7 @@
 //   4 orthonormalize: of the n floats, into a buffer that holds the m floats; the number is 65,536 times the rounds, and d
 //   5 find_face_idx, 6 spill_faces: of the n floats, the number is the spill
 // A line is the refusal's number, then what the call gives, then what it leaves in lent memory: floats as patterns, faces as numbers.
-use faces::Facing;
+use faces::FaceAnswer;
 use libc::STDIN_FILENO;
 use libc::STDOUT_FILENO;
 use vector::Number;
@@ -148,16 +148,16 @@ fn put_number(answer: Number) -> u32
 }
 
 // A face or a refusal. Answers the refusal's number.
-fn put_facing(answer: Facing) -> u32
+fn put_face_answer(answer: FaceAnswer) -> u32
     ensures { λ r. ⌜ r ≡ facesRefusalOf answer ⌝ }
 {
     match answer {
-        Facing::Face(f) => {
+        FaceAnswer::Face(f) => {
             put_refusal(0);
             put_face(f);
             0
         }
-        Facing::Refused(num) => put_refusal(num),
+        FaceAnswer::Refused(num) => put_refusal(num),
     }
 }
 
@@ -176,7 +176,7 @@ fn answer(kind: u32, number: usize, a: &mut [f32], b: &mut [f32]) -> u32
         put_refusal(ortho::orthonormalize(a, b, number % 65536, number / 65536));
         put_unsigned(b);
     } else if kind == 5 {
-        put_facing(faces::find_face_idx(a));
+        put_face_answer(faces::find_face_idx(a));
     } else if kind == 6 {
         let spilled = faces::spill_faces(a, number);
         put_refusal(spilled.refusal);

@@ -2,9 +2,9 @@
 use mathlib.Core.Path.{sym, _∙_}
 use native.Mathlib.Omega.{arith}
 use lib.ListN.{length}
-use Rattle.faces.specs.Slots.{Facable}
-use Rattle.faces.proofs.Laws.{picks-within}
-use Rattle.faces.proofs.Answer.{facable, spill-refused, spill-done}
+use Rattle.faces.specs.Slots.{HasFace}
+use Rattle.faces.proofs.Slots.{picks-within}
+use Rattle.faces.proofs.Answer.{has-face, spill-refused, spill-done}
 use borrow.Author.Needs.{needs}
 use Rattle.faces.proofs.spill_faces.Statement.{statement}
 use Rattle.faces.proofs.spill_faces.Tie as tie
@@ -26,7 +26,7 @@ slice-aggregate-pick-faces c = search needs
 
 pick-faces-requires : tie.Need-pick-faces-requires
 pick-faces-requires c κs =
-    let f : Facable (c .before .before .before .before .before .before .before .args .projection .now) = facable _ (sym (c .before .before .before .before .face-refusal .ensures) ∙ c .before .before .before .if1 .left) in
+    let f : HasFace (c .before .before .before .before .before .before .before .args .projection .now) = has-face _ (sym (c .before .before .before .before .face-refusal .ensures) ∙ c .before .before .before .if1 .left) in
     (f, omega (arith, f .few, picks-within (length (c .before .before .before .before .before .before .before .args .projection .now)) (c .before .before .before .before .before .before .before .args .spill), c .before .before .picks-for .ensures))
 
 same-length-2 : tie.Need-same-length-2

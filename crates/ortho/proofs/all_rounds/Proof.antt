@@ -6,7 +6,7 @@ use native.Mathlib.Nat.{sub-zero}
 use borrow.Author.Tests.{not-true, not-false}
 use lib.ListN.{length}
 use Rattle.ortho.specs.Ortho.{roundsOf}
-use Rattle.ortho.proofs.Laws.{rounds-fail, rounds-more, rounds-end}
+use Rattle.ortho.proofs.Loops.{rounds-fail, rounds-more, rounds-end}
 use Rattle.ortho.proofs.all_rounds.Statement.{statement}
 use Rattle.ortho.proofs.all_rounds.Tie as tie
 

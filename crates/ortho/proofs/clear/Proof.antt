@@ -6,7 +6,7 @@ use native.Mathlib.Omega.{arith}
 use lib.ListN.{length, take, length-set, replicate}
 use lib.Seq.{take-all}
 use Rattle.vector.specs.Fold.{zero32}
-use Rattle.ortho.proofs.Laws.{fill-step}
+use Rattle.ortho.proofs.Loops.{fill-step}
 use Rattle.ortho.proofs.clear.Statement.{statement}
 use Rattle.ortho.proofs.clear.Tie as tie
 

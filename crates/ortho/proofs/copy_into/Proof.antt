@@ -4,7 +4,7 @@ use Prim.Native.Nat.{_-_, _≤_}
 use mathlib.Core.Path.{_≡_, refl}
 use native.Mathlib.Omega.{arith}
 use lib.ListN.{length, take, length-set}
-use Rattle.ortho.proofs.Laws.{copy-step, copy-end}
+use Rattle.ortho.proofs.Loops.{copy-step, copy-end}
 use Rattle.ortho.proofs.copy_into.Statement.{statement}
 use Rattle.ortho.proofs.copy_into.Tie as tie
 

@@ -2,7 +2,7 @@
 use borrow.Author.Needs.{needs}
 use mathlib.Core.Path.{ap}
 use Rattle.vector.specs.Norm.{Normal}
-use Rattle.ortho.proofs.Laws.{norm-row}
+use Rattle.ortho.proofs.Loops.{norm-row}
 use Rattle.ortho.proofs.normalize_row.Statement.{statement}
 use Rattle.ortho.proofs.normalize_row.Tie as tie
 

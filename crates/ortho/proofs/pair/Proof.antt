@@ -9,7 +9,7 @@ use Rattle.ortho.specs.Ortho.{row, reduced, normRow, pairOf}
 use Rattle.ortho.proofs.pair.Statement.{statement}
 use Rattle.ortho.proofs.pair.Tie as tie
 
-say : (a b d : ℕ) (xs ys : List Float) (t : Float) → t ≡ dotOf (row a d xs) (row b d xs) → ys ≡ reduced a b t d 0 xs → pairOf a b d xs ≡ normRow b d ys
+say : (a b d : ℕ) (xs ys : List Float) (t : Float) → t ≡ dotOf (row a d xs) (row b d xs) → ys ≡ reduced a b d t xs → pairOf a b d xs ≡ normRow b d ys
 unfolding pairOf
 say a b d xs ys t p q = rw (q, p)
 

@@ -5,13 +5,12 @@ use mathlib.Core.Path.{_≡_, refl, sym, _∙_}
 use native.Mathlib.Nat.{sub-zero}
 use native.Mathlib.Omega.{arith}
 use lib.ListN.{length, length-set}
-use Rattle.ortho.specs.Ortho.{reduced}
-use Rattle.ortho.proofs.Laws.{reduced-step, reduced-end}
+use Rattle.ortho.proofs.Loops.{reducing, reducing-step, reducing-end, reduced-loop}
 use Rattle.ortho.proofs.reduce_row.Statement.{statement}
 use Rattle.ortho.proofs.reduce_row.Tie as tie
 
 abbrev Inv-loop : tie.InvT-loop
-Inv-loop out₀ a b d dot k₀ out k = (length out ≡ length out₀) × (k ≤ d) × (reduced a b dot (d - k) k out ≡ reduced a b dot d 0 out₀)
+Inv-loop out₀ a b d dot k₀ out k = (length out ≡ length out₀) × (k ≤ d) × (reducing a b dot (d - k) k out ≡ reducing a b dot d 0 out₀)
 
 abbrev μ-loop : tie.MeasureT-loop
 μ-loop out₀ a b d dot k₀ out k = d - k
@@ -58,7 +57,7 @@ loop-again c =
     let s = at .before .args in (
       simp length-set (at .loop .inv .0),
       search needs,
-      sym (reduced-step (s .a) (s .b) (s .dot) (s .d) (at .loop .k) (at .loop .out) (omega arith)) ∙ at .loop .inv .2,
+      sym (reducing-step (s .a) (s .b) (s .dot) (s .d) (at .loop .k) (at .loop .out) (omega arith)) ∙ at .loop .inv .2,
     )
 
 same-length : tie.Need-same-length Inv-loop μ-loop
@@ -67,7 +66,9 @@ same-length c = search needs
 returns : tie.Need-returns Inv-loop μ-loop
 returns c =
     let s = c .before .before .args in
-    sym (reduced-end (s .a) (s .b) (s .dot) (s .d) (c .before .loop .k) (c .before .loop .out) (omega arith)) ∙ c .before .loop .inv .2
+    sym (reducing-end (s .a) (s .b) (s .dot) (s .d) (c .before .loop .k) (c .before .loop .out) (omega arith))
+    ∙ c .before .loop .inv .2
+    ∙ reduced-loop (s .a) (s .b) (s .dot) (s .d) (s .out .now) (c .before .before .pre .0) (c .before .before .pre .1)
 
 pub reduce-row-spec : {M : Type 1} → statement M
 reduce-row-spec =

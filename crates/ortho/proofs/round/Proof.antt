@@ -7,7 +7,7 @@ use native.Mathlib.Omega.{arith}
 use borrow.Author.Tests.{not-true, not-false}
 use lib.ListN.{length}
 use Rattle.ortho.specs.Ortho.{roundOf}
-use Rattle.ortho.proofs.Laws.{round-fail-1, round-fail-2, round-more, round-end, row-within}
+use Rattle.ortho.proofs.Loops.{round-fail-1, round-fail-2, round-more, round-end, row-within}
 use Rattle.ortho.proofs.round.Statement.{statement}
 use Rattle.ortho.proofs.round.Tie as tie
 

@@ -8,7 +8,7 @@ use Rattle.quantization.proofs.lower.Statement.{statement}
 use Rattle.quantization.proofs.lower.Tie as tie
 
 cast-result : tie.Need-cast-result
-cast-result c = record { fits = or-lt 16 (c .before .args .bits / 65536) 64 (omega arith) (omega arith) }
+cast-result c = record { fits = or-lt 16 (c .before .args .bits / 65536) _ (omega arith) (omega arith) }
 
 returns : tie.Need-returns
 returns c = sym (lowered-nan (c .before .args .bits) (c .if1 .taken))

@@ -1,6 +1,6 @@
 use borrow.Author.Needs.{needs}
 use native.Mathlib.Omega.{arith}
-use Rattle.sqrt.proofs.Laws.{small-square}
+use Rattle.sqrt.proofs.Near.{small-square}
 use Rattle.sqrt.proofs.not_above.Statement.{statement}
 use Rattle.sqrt.proofs.not_above.Tie as tie
 

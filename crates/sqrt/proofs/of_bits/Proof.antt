@@ -1,5 +1,6 @@
 use mathlib.Core.Path.{sym, _∙_}
 use Rattle.sqrt.proofs.Bits.{zero-by-zero, reads-nan, reads-number}
+use native.Mathlib.Omega.{arith}
 use borrow.Author.Needs.{needs}
 use Rattle.sqrt.proofs.of_bits.Statement.{statement}
 use Rattle.sqrt.proofs.of_bits.Tie as tie
@@ -8,7 +9,7 @@ returns : tie.Need-returns
 returns c = zero-by-zero ∙ sym (reads-nan (c .before .args .n) (c .if1 .taken))
 
 float-from-bits-result : tie.Need-float-from-bits-result
-float-from-bits-result c = reads-number (c .before .args .n) (c .if1 .left)
+float-from-bits-result c = reads-number _ (omega (arith, c .if1 .left))
 
 returns-2 : tie.Need-returns-2
 returns-2 c = search needs

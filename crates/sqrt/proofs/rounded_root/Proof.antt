@@ -3,7 +3,7 @@ use mathlib.Core.Logic.{inl, inr, ⊎-elim}
 use borrow.Author.Needs.{needs}
 use native.Mathlib.Omega.{arith}
 use Rattle.sqrt.specs.Root.{Near}
-use Rattle.sqrt.proofs.Laws.{Scaling, scaling-bounds, rounded-near}
+use Rattle.sqrt.proofs.Near.{Scaling, scaling-bounds, rounded-near}
 use Rattle.sqrt.proofs.rounded_root.Statement.{statement}
 use Rattle.sqrt.proofs.rounded_root.Tie as tie
 

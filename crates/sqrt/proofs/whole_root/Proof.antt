@@ -2,7 +2,7 @@ use Prim.Native.Nat.{ℕ, _+_, _-_, _*_, _/_, _≤_, _<_}
 use mathlib.Core.Path.{_≡_}
 use borrow.Author.Needs.{needs}
 use native.Mathlib.Omega.{arith}
-use Rattle.sqrt.proofs.Laws.{small-square}
+use Rattle.sqrt.proofs.Near.{small-square}
 use Rattle.sqrt.proofs.whole_root.Statement.{statement}
 use Rattle.sqrt.proofs.whole_root.Tie as tie
 

@@ -2,7 +2,7 @@
 use borrow.Author.Needs.{needs}
 use mathlib.Core.Path.{_≡_, _∙_, ap, sym}
 use mathlib.Core.List.{List, [], _∷_}
-use Rattle.faces.specs.declared.Facing.{Facing}
+use Rattle.faces.specs.declared.FaceAnswer.{FaceAnswer}
 use Rattle.capi_vectors.specs.Single.{single}
 use Rattle.capi_vectors.specs.Projections.{facePut}
 use Rattle.capi_vectors.proofs.Places.{one-place}
@@ -27,10 +27,10 @@ same-length c = search needs
 returns : tie.Need-returns
 returns c =
     let z : toZ w32 (ofZ w32 (c .before .answer .given .0 .0)) ≡ c .before .answer .given .0 .0 = search needs in
-    ap (λ (l : List ℤ). single 0 l) (one-place (c .before .before .before .args .out .now) _ (c .before .before .before .pre) ∙ ap (λ (x : ℤ). x ∷ []) z) ∙ sym (ap (λ (a : Facing). facePut a (c .before .before .before .args .out .now)) (c .before .answer .given .1))
+    ap (λ (l : List ℤ). single 0 l) (one-place (c .before .before .before .args .out .now) _ (c .before .before .before .pre) ∙ ap (λ (x : ℤ). x ∷ []) z) ∙ sym (ap (λ (a : FaceAnswer). facePut a (c .before .before .before .args .out .now)) (c .before .answer .given .1))
 
 returns-2 : tie.Need-returns-2
-returns-2 c = sym (ap (λ (a : Facing). facePut a (c .before .before .before .args .out .now)) (c .before .answer2 .given .1))
+returns-2 c = sym (ap (λ (a : FaceAnswer). facePut a (c .before .before .before .args .out .now)) (c .before .answer2 .given .1))
 
 pub put-face-spec : {M : Type 1} → statement M
 put-face-spec =

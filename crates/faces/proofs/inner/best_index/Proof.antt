@@ -6,7 +6,7 @@ use mathlib.Core.Logic.{⊎-elim}
 use native.Mathlib.Omega.{arith}
 use lib.ListN.{length}
 use Rattle.vector.specs.Finite.{isFinite}
-use Rattle.vector.proofs.Laws.{every-at}
+use Rattle.vector.proofs.Vectors.{every-at}
 use Rattle.faces.proofs.First.{Best, start, step-yes, step-no, best-is}
 use Rattle.faces.proofs.inner.best_index.Statement.{statement}
 use Rattle.faces.proofs.inner.best_index.Tie as tie

@@ -9,7 +9,7 @@ use mir.Syntax.{w32}
 use mir.Val.{SFits, toZ, ofZ}
 use mir.ValLaws.{toZ-ofZ}
 use mir.Facts.{toZ-pos}
-use Rattle.faces.specs.Slots.{facing}
+use Rattle.faces.specs.Slots.{faceFor}
 use borrow.Author.Needs.{needs}
 use Rattle.faces.proofs.inner.face_of.Statement.{statement}
 use Rattle.faces.proofs.inner.face_of.Tie as tie
@@ -33,12 +33,12 @@ sub-result : tie.Need-sub-result
 sub-result c = subst (SFits w32) (sym (minus (c .before .args .b) (c .before .pre))) (small (c .before .args .b) (c .before .pre))
 
 returns : tie.Need-returns
-returns c = read (c .before .args .b) (c .before .pre) ∙ sym (ap (λ (t : Bool). facing t (c .before .args .b)) (c .if1 .taken))
+returns c = read (c .before .args .b) (c .before .pre) ∙ sym (ap (λ (t : Bool). faceFor t (c .before .args .b)) (c .if1 .taken))
 
 returns-2 : tie.Need-returns-2
 returns-2 c =
     ap (λ (z : ℤ). toZ w32 (ofZ w32 z)) (minus (c .before .args .b) (c .before .pre)) ∙ toZ-ofZ w32 (negsuc (c .before .args .b)) (small (c .before .args .b) (c .before .pre))
-    ∙ sym (ap (λ (t : Bool). facing t (c .before .args .b)) (c .if1 .left))
+    ∙ sym (ap (λ (t : Bool). faceFor t (c .before .args .b)) (c .if1 .left))
 
 pub face-of-spec : {M : Type 1} → statement M
 face-of-spec = tie.close (tie.spec add-n cast-n sub-result returns returns-2)

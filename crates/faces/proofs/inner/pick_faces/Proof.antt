@@ -11,7 +11,7 @@ use mir.Syntax.{w32}
 use mir.ValLaws.{toZ-ofZ}
 use Rattle.vector.specs.Finite.{allFinite}
 use Rattle.faces.specs.Slots.{facesOf, afterOf}
-use Rattle.faces.proofs.Laws.{length-picked, finite-picked}
+use Rattle.faces.proofs.Slots.{length-picked, finite-picked}
 use Rattle.faces.proofs.Picks.{face-at, picked-at, after-step, faces-step, after-end, faces-end, rest-step, written}
 use Rattle.faces.proofs.inner.pick_faces.Statement.{statement}
 use Rattle.faces.proofs.inner.pick_faces.Tie as tie

@@ -5,7 +5,7 @@ use mathlib.Core.Path.{_≡_, refl, sym, _∙_}
 use native.Mathlib.Omega.{arith}
 use lib.ListN.{length, drop}
 use Rattle.vector.specs.Fold.{fold2, dotOf, dotStep}
-use Rattle.vector.proofs.Laws.{fold2-step, fold2-end}
+use Rattle.vector.proofs.Vectors.{fold2-step, fold2-end}
 use Rattle.vector.proofs.inner.dot_of.Statement.{statement}
 use Rattle.vector.proofs.inner.dot_of.Tie as tie
 

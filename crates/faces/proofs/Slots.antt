@@ -12,9 +12,9 @@ use lib.Ieee.{Float, nan, ofBits}
 use Rattle.paper.specs.Choice.{pick}
 use Rattle.vector.specs.Fold.{zero32}
 use Rattle.vector.specs.Finite.{isFinite, allFinite}
-use Rattle.vector.proofs.Laws.{every-set}
+use Rattle.vector.proofs.Vectors.{every-set}
 use Rattle.faces.specs.Best.{positive, bestOf}
-use Rattle.faces.specs.Slots.{facing, faceOf, slotOfFace, slotFor, slotOf, pickedOf, slots, facesOf, afterOf, picksOf}
+use Rattle.faces.specs.Slots.{faceFor, faceOf, slotOfFace, slotFor, slotOf, pickedOf, slots, facesOf, afterOf, picksOf, HasFace}
 use Rattle.faces.proofs.First.{best-low}
 
 -- ---- a pick
@@ -31,12 +31,17 @@ pub finite-picked : (w : List Float) → allFinite w ≡ true → allFinite (pic
 unfolding pickedOf
 finite-picked w h = every-set isFinite w (bestOf w) zero32 zero-finite h
 
+-- what a pick leaves has a face again
+pub picked-face : (w : List Float) → HasFace w → HasFace (pickedOf w)
+picked-face w h =
+    record { some = rw (length-picked w) (h .some); few = rw (length-picked w) (h .few); finite = finite-picked w (h .finite) }
+
 -- ---- faces and slots
 
 -- the slot of a face, by index and sign
-pub facing-slot : (d : ℕ) (up : Bool) (i : ℕ) → slotOfFace d (facing up i) ≡ slotFor d up i
-facing-slot d true i = omega arith
-facing-slot d false i = omega arith
+pub face-for-slot : (d : ℕ) (up : Bool) (i : ℕ) → slotOfFace d (faceFor up i) ≡ slotFor d up i
+face-for-slot d true i = omega arith
+face-for-slot d false i = omega arith
 
 -- the slot is that of the face
 pub face-slot : (w : List Float) → slotOf w ≡ slotOfFace (length w) (faceOf w)
@@ -45,7 +50,7 @@ face-slot w = refl
 
 pub slot-is : (w : List Float) → slotOf w ≡ slotFor (length w) (positive (getD w (bestOf w) nan)) (bestOf w)
 unfolding slotOf faceOf
-slot-is w = facing-slot (length w) (positive (getD w (bestOf w) nan)) (bestOf w)
+slot-is w = face-for-slot (length w) (positive (getD w (bestOf w) nan)) (bestOf w)
 
 -- an index's slot is below 2d
 pub slot-for-low : (d : ℕ) (up : Bool) (i : ℕ) → i < d → slotFor d up i < 2 * d

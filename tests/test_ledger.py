@@ -48,10 +48,10 @@ def laws():
     """The fields of each crate's record Laws, as {crate: [field]}."""
     told = {}
     for crate in listed_crates():
-        specs = ROOT / "crates" / crate / "specs" / "Laws.antt"
-        if specs.exists():
-            record = specs.read_text(encoding="utf-8").split("pub record Laws", 1)[1]
-            told[crate] = re.findall(r"^  pub ([\w'-]+) :", record, re.M)
+        for specs in (ROOT / "crates" / crate / "specs").glob("*.antt"):
+            record = re.search(r"^pub record Laws .*?(?=^\S|\Z)", specs.read_text(encoding="utf-8"), re.M | re.S)
+            if record:
+                told[crate] = re.findall(r"^  pub ([\w'-]+) :", record.group(), re.M)
     return told
 
 

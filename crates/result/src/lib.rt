@@ -261,15 +261,6 @@ impl ResultSet {
     }
 }
 
-// Feeds a set that stays in a local, in place. Its parameters are plain values, so whoever calls it needs to know nothing of references.
-pub fn fed_in_place(set: ResultSet, id: u32, similarity: f32) -> Fed
-    ensures { λ r. ⌜ r ≡ feedOf set id similarity ⌝ }
-{
-    let mut kept = set;
-    let refusal = kept.add_result(id, similarity);
-    Fed { refusal, set: kept }
-}
-
 // The laws of this crate, claimed: specs/Laws.antt says each of them.
 pub fn laws()
     ensures { λ _. ⌜ Laws ⌝ }

@@ -75,12 +75,21 @@ fn show(set: ResultSet) {
     line();
 }
 
+// One feed of a set that stays in a local and is lent.
+fn fed_in_place(set: ResultSet, id: u32, similarity: f32) -> Fed
+    ensures { λ r. ⌜ r ≡ feedOf set id similarity ⌝ }
+{
+    let mut kept = set;
+    let refusal = kept.add_result(id, similarity);
+    Fed { refusal, set: kept }
+}
+
 // One feed, by value or in place.
 fn fed(set: ResultSet, id: u32, similarity: f32, in_place: bool) -> Fed
     ensures { λ r. ⌜ r ≡ feedOf set id similarity ⌝ }
 {
     if in_place {
-        return result::fed_in_place(set, id, similarity);
+        return fed_in_place(set, id, similarity);
     }
     set.feed(id, similarity)
 }
@@ -151,9 +160,15 @@ fn show_recall(r: Recall) {
 fn made_up(input: &[u8], at: usize) -> ResultSet
     requires { ⌜ at < 1099511627776 ⌝ }
 {
-    let mut set = ResultSet::empty(word(input, at) as usize);
-    set.len = word(input, at + 1) as usize;
-    set.checked = word(input, at + 2);
+    let ids = [0u32; 256];
+    let sims = [0.0f32; 256];
+    let mut set = ResultSet {
+        ids,
+        sims,
+        len: word(input, at + 1) as usize,
+        k: word(input, at) as usize,
+        checked: word(input, at + 2),
+    };
     let place = word(input, at + 3) as usize;
     if place < 256 {
         set.ids[place] = word(input, at + 4);

@@ -3,7 +3,8 @@
 //   0  k, m, m times id and score: a set fed by value; prints checked, the length and the entries
 //   1  the same, for a set fed in place
 //   2  at, then two times k, m and m times id and score: the recall of the first set against the second; prints its 64 bits
-//   3  a set's k, len, checked, one place with its id and score, then the id and score to feed: prints the refusal, then len and checked after it
+//   3  a set's k, len, checked, one place with its id and score, then the id and score to feed: prints whether the set is well formed and whether it is empty, then
+//      the refusal, and len and checked after it
 //   4  at, then two times a set's k, len, checked, one place with its id and score: prints the refusal of a recall
 use libc::STDIN_FILENO;
 use libc::STDOUT_FILENO;
@@ -49,6 +50,14 @@ fn line() {
 
 fn number(n: u64) {
     io::print_decimal(STDOUT_FILENO, n);
+}
+
+fn flag(b: bool) {
+    if b {
+        io::write_all(STDOUT_FILENO, b"yes ");
+    } else {
+        io::write_all(STDOUT_FILENO, b"no ");
+    }
 }
 
 fn show_entry(e: SearchResult) {
@@ -212,6 +221,8 @@ fn refusing(input: &[u8], at: usize) -> usize
     let set = made_up(input, at);
     let id = word(input, at + 6);
     let similarity = sqrt::of_bits(word(input, at + 7));
+    flag(set.well_formed());
+    flag(set.is_empty());
     let f = set.feed(id, similarity);
     number(f.refusal as u64);
     space();

@@ -13,7 +13,6 @@ use Rattle.bitmaps.specs.declared.Found.the-variants.{At, Nothing}
 
 pub record Laws : Type 0 where
   -- ---- which ids a set has after each operation: 1 for an id that it has, 0 for any other
-
   -- union: the ids of either
   pub has-union : (a b : List ℕ) → length a ≡ length b → (i : ℕ) → has (union a b) i ≡ max (has a i) (has b i)
   -- what two sets share, which merging carries on: the ids of both
@@ -28,25 +27,19 @@ pub record Laws : Type 0 where
   pub has-kept : (s : List ℕ) (i j : ℕ) → i < length s * 64 → (j ≡ i → ⊥) → has (inserted s i) j ≡ has s j
   -- an empty set has none
   pub has-empty : (m i : ℕ) → has (empty m) i ≡ 0
-
   -- ---- the same as `contains` answers it
-
   pub holds-union : (a b : List ℕ) → length a ≡ length b → (i : ℕ) → holds (union a b) i ≡ (holds a i || holds b i)
   pub holds-shared : (a b : List ℕ) → length a ≡ length b → (i : ℕ) → holds (shared a b) i ≡ (holds a i && holds b i)
   pub holds-exclusive : (a b : List ℕ) → length a ≡ length b → (i : ℕ) → holds (exclusive a b) i ≡ xor (holds a i) (holds b i)
   pub holds-without : (a b : List ℕ) → length a ≡ length b → (i : ℕ) → Words b → holds (without a b) i ≡ (holds a i && not (holds b i))
   pub holds-inserted : (s : List ℕ) (i j : ℕ) → i < length s * 64 → holds (inserted s i) j ≡ (eqb j i || holds s j)
   pub holds-empty : (m i : ℕ) → holds (empty m) i ≡ false
-
   -- ---- words and ids
-
   -- two sets of one length that have the same ids are the same words, to the last digit
   pub same-words : (a b : List ℕ) → length a ≡ length b → Words a → Words b → ((i : ℕ) → has a i ≡ has b i) → a ≡ b
   -- a union and what is shared have as many ids together as the two sets
   pub size-union : (a b : List ℕ) → length a ≡ length b → size (union a b) + size (shared a b) ≡ size a + size b
-
   -- ---- the rising walk
-
   -- the list of a set's ids has each of them once, and no other number
   pub ids-once : (s : List ℕ) (i : ℕ) → listed i (idsOf s) ≡ has s i
   -- it rises

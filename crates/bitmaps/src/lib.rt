@@ -185,5 +185,4 @@ pub fn xor(cap: usize, a: &mut [u64], b: &[u64]) -> u32
 // The laws of this crate, claimed: specs/Laws.antt says each of them.
 pub fn laws()
     ensures { λ _. ⌜ Laws ⌝ }
-{
-}
+{}

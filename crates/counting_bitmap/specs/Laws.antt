@@ -13,7 +13,6 @@ use Rattle.counting_bitmap.specs.declared.Chosen.the-variants.{Layer, Re
 
 pub record Laws : Type 0 where
   -- ---- sets merged in turn
-
   -- from empty layers, layer j has an id, as a digit, exactly if more than j of the sets have it
   pub counts : (n w : ℕ) (cs : List (List ℕ)) → Sized w cs → (id j : ℕ) → j < n
       → has (layer w (mergedAll n w (empty (n * w)) cs) j) id ≡ min 1 (times cs id - j)
@@ -30,9 +29,7 @@ pub record Laws : Type 0 where
   pub drops-nothing : (n w : ℕ) (cs : List (List ℕ)) → length cs ≤ n → Sized w cs → droppedAll n w (empty (n * w)) cs ≡ 0
   -- place i of the counts is the count of layer i
   pub counts-at : (n w i : ℕ) (ls : List ℕ) → i < n → getD (countsOf n w ls) i 0 ≡ size (layer w ls i)
-
   -- ---- the chosen layer, of whatever a call with search_k k answers
-
   -- a layer is the answer only if it has k ids and none above it has
   pub chosen-is-highest : (cap n k : ℕ) (ls : List ℕ) (r : Chosen) → ChosenIs (layersFault cap n (length ls)) (topOf n (cap / 64) ls k) r
       → (i : ℕ) → r ≡ Layer i → Highest n (cap / 64) ls k i
@@ -48,9 +45,7 @@ pub record Laws : Type 0 where
   -- search_k 0 picks the last layer, empty or not
   pub zero-picks-last : (cap n : ℕ) (ls : List ℕ) (r : Chosen) → ChosenIs (layersFault cap n (length ls)) (topOf n (cap / 64) ls 0) r
       → layersFault cap n (length ls) ≡ 0 → r ≡ Layer (n - 1)
-
   -- ---- the part that is handed back
-
   -- it is the highest layer with k ids,
   pub part-of-highest : (cap n k : ℕ) (ls : List ℕ) → layersFault cap n (length ls) ≡ 0 → (i : ℕ) → Highest n (cap / 64) ls k i
       → topPart cap n ls k ≡ layer (cap / 64) ls i

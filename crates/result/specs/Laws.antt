@@ -15,7 +15,6 @@ use Rattle.result.specs.declared.Recall.{Recall}
 
 pub record Laws : Type 0 where
   -- ---- lists, over any comparison
-
   -- feeding keeps a list in order
   pub fed-order : (before : Float → Float → Bool) → OneWay before → (k : ℕ) (e : Entry) (es : List Entry)
       → inOrder before es ≡ true → inOrder before (fed before k e es) ≡ true
@@ -28,14 +27,10 @@ pub record Laws : Type 0 where
   -- in a list that is in order no later score goes before an earlier one, however far apart they stand
   pub sorted : (before : Float → Float → Bool) → Through before → (d : Entry) (es : List Entry) (i j : ℕ)
       → inOrder before es ≡ true → allOf heldE es ≡ true → i < j → j < length es → before (getD es j d .sim) (getD es i d .sim) ≡ false
-
   -- ---- the rule in use, the larger score first, is such a comparison
-
   pub larger-one-way : OneWay larger
   pub larger-through : Through larger
-
   -- ---- sets, by the rule in use
-
   -- what a set holds after a feed is the list that the rule leaves
   pub entries-fed : (s : ResultSet) (e : Entry) → entriesOf (fedSet s e) ≡ fed larger (s .k) e (entriesOf s)
   -- the same for entries in turn
@@ -56,8 +51,6 @@ pub record Laws : Type 0 where
   -- a set that is closed to a score x (full, its last score above x) is closed to it after any feed
   pub closed-stays : (s : ResultSet) (e : Entry) (x : Float) → Sound s → inOrder larger (entriesOf s) ≡ true → isNan (e .sim) ≡ false
       → fullAbove (s .len) (s .k) (s .sims) x ≡ true → fullAbove (fedSet s e .len) (fedSet s e .k) (fedSet s e .sims) x ≡ true
-
   -- ---- recall
-
   -- two recalls that tell the same number and share are the same answer
   pub told-apart : (a b : Recall) → toldBy a ≡ toldBy b → a ≡ b

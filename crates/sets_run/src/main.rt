@@ -288,14 +288,7 @@ fn call(
 }
 
 // One line of the input.
-fn line(
-    s: &[u8],
-    at: usize,
-    first: usize,
-    second: usize,
-    a: &mut [u64],
-    b: &mut [u64],
-) -> Step
+fn line(s: &[u8], at: usize, first: usize, second: usize, a: &mut [u64], b: &mut [u64]) -> Step
     requires { ⌜ at + 2 ≤ length (now s) ⌝ }
     ensures { λ r. ⌜ (at < r .next) × (r .next ≤ length (now (s .entry))) ⌝ }
 {

@@ -1,13 +1,9 @@
 #!/usr/bin/env python3
-"""Makes `stdin` and `stdout` of this crate: make_cases.py RECORDED/layers.txt
+"""Makes `stdin` and `stdout` of this crate: make_cases.py
 
-What `top_k` hands back is held to the Rust: each recorded line `layers n capacity m set.. layer..` gives layers, and each line `topk search_k layer` after it
-names the one that the Rust's top_k picked (`none` for nothing, where the part is empty). Every other answer is computed here a second time, from the rules and
-over Python's sets of whole numbers, never over words: a set is the numbers that are in it.
+Every answer is computed here a second time, from the rules and over Python's sets of whole numbers, never over words: a set is the numbers that are in it.
 """
 import os
-import sys
-from collections import Counter
 
 MOST = 1056     # words in each of the program's memories
 ROOM = 131072   # bytes of input that it reads
@@ -40,11 +36,11 @@ class Run:
         self.asked.append(' '.join(['a %x' % la] + words_of(a, la)))
         self.asked.append(' '.join(['b %x' % lb] + words_of(b, lb)))
 
-    def say(self, letter, cap, x, y, *parts):
-        self.asked.append('%s %x %x %x' % (letter, cap, x, y))
+    def say(self, letter, cap, x, *parts):
+        self.asked.append('%s %x %x' % (letter, cap, x))
         self.said.append(' '.join(str(p) for p in parts))
 
-    # ---- sets: 1 for the capacity, 2 for a length, 3 for an id
+    # ---- the calls: 1 for the capacity, 2 for a length, 3 for an id
 
     def fault(self, cap, ident=None, pair=False):
         if not capacity_ok(cap):
@@ -58,7 +54,7 @@ class Run:
     def changed(self, letter, cap, x, fault, new, pair=False):
         if fault == 0:
             self.a = new
-        self.say(letter, cap, x, 0, fault, *words_of(self.a, self.la), *(words_of(self.b, self.lb) if pair else []))
+        self.say(letter, cap, x, fault, *words_of(self.a, self.la), *(words_of(self.b, self.lb) if pair else []))
 
     def clear(self, cap):
         self.changed('c', cap, 0, self.fault(cap), set())
@@ -77,7 +73,7 @@ class Run:
         self.changed('d', cap, 0, self.fault(cap, pair=True), {i for i in self.a if i not in self.b}, True)
 
     def told(self, letter, cap, x, fault, *answer):
-        self.say(letter, cap, x, 0, *(answer if fault == 0 else ('refused', fault)))
+        self.say(letter, cap, x, *(answer if fault == 0 else ('refused', fault)))
 
     def count(self, cap):
         self.told('n', cap, 0, self.fault(cap), len(self.a))
@@ -96,59 +92,6 @@ class Run:
         """From 0, and from one past each id."""
         for start in [0] + [i + 1 for i in sorted(self.a)]:
             self.next(cap, start)
-
-    # ---- layers: 1 for the capacity or their number, 2 for a length, 8 for too few
-
-    def layers_fault(self, cap, n, merging=False):
-        if not capacity_ok(cap) or n not in range(1, 33):
-            return 1
-        if self.la != n * (cap // 64) or merging and self.lb != cap // 64:
-            return 2
-        return 0
-
-    def layer(self, cap, j):
-        return {i - j * cap for i in self.a if j * cap <= i < (j + 1) * cap}
-
-    def merge(self, cap, n):
-        fault = self.layers_fault(cap, n, True)
-        answer = ('refused', fault)
-        if fault == 0:
-            carried, layers = set(self.b), []
-            for j in range(n):
-                held = self.layer(cap, j)
-                layers.append(held | carried)
-                carried &= held
-            self.a = {j * cap + i for j in range(n) for i in layers[j]}
-            self.b = carried
-            answer = ('dropped', len(carried))
-        self.say('m', cap, n, 0, *answer, *words_of(self.a, self.la), '|', *words_of(self.b, self.lb))
-
-    def cardinalities(self, cap, n):
-        fault = self.layers_fault(cap, n)
-        answer = ('refused', fault) if fault else ('counts', *(len(self.layer(cap, j)) for j in range(n)))
-        self.say('g', cap, n, 0, *answer)
-
-    def top(self, cap, n, k):
-        fault = self.layers_fault(cap, n)
-        enough = [] if fault else [j for j in range(n) if len(self.layer(cap, j)) >= k]
-        self.say('p', cap, n, k, 'part', *(words_of(self.layer(cap, max(enough)), cap // 64) if enough else []))
-        self.say('q', cap, n, k, *(('layer', max(enough)) if enough else ('refused', fault or 8)))
-
-
-def recorded(run, path):
-    """The parts of the Rust's own layers."""
-    for line in open(path, encoding='ascii'):
-        kind, *rest = line.split()
-        if kind == 'layers':
-            n, cap, m = (int(x) for x in rest[:3])
-            w = cap // 64
-            layers = ['%x' % int(x, 16) for x in rest[3 + m * w:]]
-            assert len(layers) == n * w
-            run.asked.append(' '.join(['a %x' % (n * w)] + layers))
-        else:
-            k, picked = int(rest[0]), rest[1]
-            part = [] if picked == 'none' else layers[int(picked) * w:int(picked) * w + w]
-            run.say('p', cap, n, k, 'part', *part)
 
 
 def drawn(seed, cap, share):
@@ -221,51 +164,11 @@ def refused(run):
         run.add(65536, 5)
 
 
-def layered(run):
-    """Layers that held something, grown ones, and refused calls."""
-    for seed, (n, cap) in enumerate(((1, 64), (3, 64), (2, 128), (5, 192), (32, 64)), 7):
-        w = cap // 64
-        for share in (0, 100, 500, 900, 1000):
-            run.load(drawn(seed * share + 1, n * cap, share), n * w, drawn(seed + share + 2, cap, 500), w)
-            run.cardinalities(cap, n)
-            run.merge(cap, n)
-            run.merge(cap, n)
-            run.cardinalities(cap, n)
-            for k in (0, 1, cap // 2, cap, cap + 1, TOP):
-                run.top(cap, n, k)
-    # grown from empty: layer j holds the ids in more than j of the sets, counted here
-    for n, cap, sets in ((3, 64, ({1, 2}, {2, 3}, {2})), (2, 128, ({1, 127}, {127}, {127, 64}, {127, 1})), (4, 64, tuple(drawn(s, 64, 700) for s in range(1, 7)))):
-        w, seen, fallen = cap // 64, Counter(), 0
-        run.load(set(), n * w)
-        for s in sets:
-            before = run.a
-            run.asked.append(' '.join(['b %x' % w] + words_of(s, w)))
-            run.b, run.lb = set(s), w
-            seen.update(s)
-            run.merge(cap, n)
-            assert run.a == {j * cap + i for j in range(n) for i in seen if seen[i] > j}, before
-            fallen += len(run.b)
-        assert len(run.a) + fallen == sum(len(s) for s in sets)
-        run.cardinalities(cap, n)
-        for k in range(6):
-            run.top(cap, n, k)
-    for n, cap, la, lb in ((0, 64, 0, 1), (33, 64, 33, 1), (1, 0, 1, 1), (1, 65, 1, 1), (1, 65600, 1, 1), (TOP, 64, 1, 1), (1, TOP, 1, 1), (2, 64, 1, 1), (2, 64, 3, 1), (1, 64, 1, 0), (1, 64, 1, 2),
-                           (2, 128, 2, 2), (2, 128, 4, 1), (32, 64, 32, 1), (32, 65536, 32, 1)):
-        run.load({i for i in (0, 64) if i < la * 64}, la, {i for i in (0, 65) if i < lb * 64}, lb)
-        run.cardinalities(cap, n)
-        run.top(cap, n, 0)
-        run.top(cap, n, 1)
-        run.top(cap, n, 65)
-        run.merge(cap, n)
-
-
 def main():
     here = os.path.dirname(os.path.abspath(__file__))
     run = Run()
-    recorded(run, sys.argv[1])
     plain(run)
     refused(run)
-    layered(run)
     for name, lines in (('stdin', run.asked), ('stdout', run.said)):
         text = '\n'.join(lines) + '\n'
         assert name == 'stdout' or len(text) <= ROOM, len(text)

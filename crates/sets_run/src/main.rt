@@ -1,19 +1,14 @@
-// Runs every public call on sets and layers and shows its answer and what it left. The input has lines of a letter and numbers in hexadecimal digits,
-// each number with one byte after it:
-//   a LEN WORD ..    the first memory becomes LEN words
-//   b LEN WORD ..    so does the second
-//   LETTER CAP X Y   a call with capacity CAP on the memories, as long as they are:
-//     on the first:  c clear, n count, e is_empty, i add id X, h contains id X, w next from X
-//     on both:       o or, x xor, d and_not; both memories are shown
-//     on the first as X layers:  m or with the second as the set, g cardinalities, p top_k with search_k Y, q top_k_number with search_k Y
+// Runs every public call on sets and shows its answer and what it left. The input has lines of a letter and numbers in hexadecimal digits, each number with
+// one byte after it:
+//   a LEN WORD ..   the first memory becomes LEN words
+//   b LEN WORD ..   so does the second
+//   LETTER CAP X    a call with capacity CAP on the memories, as long as they are: c clear, n count, e is_empty, i add id X, h contains id X, w next from X,
+//                   o or, x xor, d and_not; these three show both memories
 ghost use Prim.Native.Nat.{_+_, _<_, _≤_};
 ghost use lib.ListN.{length};
 use bitmaps::Asked;
 use bitmaps::Counted;
 use bitmaps::Walked;
-use counting_bitmap::Chosen;
-use counting_bitmap::Counts;
-use counting_bitmap::Merged;
 use libc::STDIN_FILENO;
 use libc::STDOUT_FILENO;
 
@@ -88,46 +83,17 @@ fn least(n: usize, most: usize) -> usize
     if n < most { n } else { most }
 }
 
-fn text(s: &[u8]) {
-    io::write_all(STDOUT_FILENO, s);
-}
-
-fn decimal(n: u64) {
-    io::print_decimal(STDOUT_FILENO, n);
-}
-
 fn show_refused(f: u32) {
-    text(b"refused ");
-    decimal(f as u64);
-}
-
-fn wide(x: u32) -> u64 {
-    x as u64
+    io::write_all(STDOUT_FILENO, b"refused ");
+    io::print_decimal(STDOUT_FILENO, f as u64);
 }
 
 // Shows all words, each after a blank.
 fn show_words(words: &[u64]) {
     let mut i = 0;
     while i < words.len() {
-        text(b" ");
+        io::write_all(STDOUT_FILENO, b" ");
         io::print_hex(STDOUT_FILENO, words[i], 1);
-        i += 1;
-    }
-}
-
-// Shows the counts, each after a blank; the places past them, if one is not 0.
-fn show_counts(c: Counts) {
-    let counts = c.counts;
-    let mut i = 0;
-    while i < 32 {
-        if i < c.count {
-            text(b" ");
-            decimal(wide(counts[i]));
-        } else {
-            if counts[i] != 0 {
-                text(b" left");
-            }
-        }
         i += 1;
     }
 }
@@ -136,9 +102,9 @@ fn show_asked(r: Asked) {
     match r {
         Asked::Is(b) => {
             if b {
-                text(b"yes");
+                io::write_all(STDOUT_FILENO, b"yes");
             } else {
-                text(b"no");
+                io::write_all(STDOUT_FILENO, b"no");
             }
         }
         Asked::Refused(f) => show_refused(f),
@@ -147,7 +113,9 @@ fn show_asked(r: Asked) {
 
 fn show_counted(r: Counted) {
     match r {
-        Counted::Ids(n) => decimal(n as u64),
+        Counted::Ids(n) => {
+            io::print_decimal(STDOUT_FILENO, n as u64);
+        }
         Counted::Refused(f) => show_refused(f),
     }
 }
@@ -155,37 +123,19 @@ fn show_counted(r: Counted) {
 fn show_walked(r: Walked) {
     match r {
         Walked::At(i) => {
-            text(b"at ");
-            decimal(i as u64);
+            io::write_all(STDOUT_FILENO, b"at ");
+            io::print_decimal(STDOUT_FILENO, i as u64);
         }
-        Walked::Nothing => text(b"nothing"),
+        Walked::Nothing => {
+            io::write_all(STDOUT_FILENO, b"nothing");
+        }
         Walked::Refused(f) => show_refused(f),
-    }
-}
-
-fn show_merged(r: Merged) {
-    match r {
-        Merged::Dropped(n) => {
-            text(b"dropped ");
-            decimal(n as u64);
-        }
-        Merged::Refused(f) => show_refused(f),
-    }
-}
-
-fn show_chosen(r: Chosen) {
-    match r {
-        Chosen::Layer(i) => {
-            text(b"layer ");
-            decimal(i as u64);
-        }
-        Chosen::Refused(f) => show_refused(f),
     }
 }
 
 // A call that changes the first memory: its number and the words after it.
 fn show_changed(f: u32, words: &[u64]) {
-    decimal(f as u64);
+    io::print_decimal(STDOUT_FILENO, f as u64);
     show_words(words);
 }
 
@@ -239,52 +189,13 @@ fn two(letter: u8, cap: usize, a: &mut [u64], b: &[u64]) {
     }
 }
 
-// The calls on layers.
-fn layered(letter: u8, cap: usize, n: usize, k: usize, a: &mut [u64], b: &mut [u64]) {
-    if letter == b'm' {
-        show_merged(counting_bitmap::or(cap, n, a, b));
-        show_words(a);
-        text(b" |");
-        show_words(b);
-        return;
-    }
-    if letter == b'g' {
-        let c = counting_bitmap::cardinalities(cap, n, a);
-        if c.refusal == 0 {
-            text(b"counts");
-        } else {
-            show_refused(c.refusal);
-        }
-        show_counts(c);
-        return;
-    }
-    if letter == b'p' {
-        text(b"part");
-        show_words(counting_bitmap::top_k(cap, n, a, k));
-        return;
-    }
-    if letter == b'q' {
-        show_chosen(counting_bitmap::top_k_number(cap, n, a, k));
-    }
-}
-
 // The call that a letter names; none for any other letter.
-fn call(
-    letter: u8,
-    cap: usize,
-    x: usize,
-    y: usize,
-    first: usize,
-    second: usize,
-    a: &mut [u64],
-    b: &mut [u64],
-) {
+fn call(letter: u8, cap: usize, x: usize, first: usize, second: usize, a: &mut [u64], b: &[u64]) {
     let n = least(first, a.len());
     let m = least(second, b.len());
     one(letter, cap, x, &mut a[0..n]);
     two(letter, cap, &mut a[0..n], &b[0..m]);
-    layered(letter, cap, x, y, &mut a[0..n], &mut b[0..m]);
-    text(b"\n");
+    io::write_all(STDOUT_FILENO, b"\n");
 }
 
 // One line of the input.
@@ -313,12 +224,10 @@ fn line(s: &[u8], at: usize, first: usize, second: usize, a: &mut [u64], b: &mut
         };
     }
     let y = number(s, x.next);
-    let z = number(s, y.next);
     call(
         letter,
         x.value as usize,
         y.value as usize,
-        z.value as usize,
         first,
         second,
         a,
@@ -327,7 +236,7 @@ fn line(s: &[u8], at: usize, first: usize, second: usize, a: &mut [u64], b: &mut
     Step {
         first,
         second,
-        next: z.next,
+        next: y.next,
     }
 }
 

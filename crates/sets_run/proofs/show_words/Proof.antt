@@ -14,11 +14,11 @@ abbrev μ-loop : tie.MeasureT-loop
 loop-holds : tie.Need-loop-holds Inv-loop μ-loop
 loop-holds c = search needs
 
-slice-aggregate-text : tie.Need-slice-aggregate-text Inv-loop μ-loop
-slice-aggregate-text c = search needs
+slice-aggregate-write-all : tie.Need-slice-aggregate-write-all Inv-loop μ-loop
+slice-aggregate-write-all c = search needs
 
-text-requires : tie.Need-text-requires Inv-loop μ-loop
-text-requires c κs = search needs
+write-all-requires : tie.Need-write-all-requires Inv-loop μ-loop
+write-all-requires c κs = search needs
 
 mul-print-hex : tie.Need-mul-print-hex Inv-loop μ-loop
 mul-print-hex c = search needs
@@ -48,8 +48,8 @@ show-words-spec =
     Inv-loop
     μ-loop
     loop-holds
-    slice-aggregate-text
-    text-requires
+    slice-aggregate-write-all
+    write-all-requires
     mul-print-hex
     shared-slice-read-print-hex
     print-hex-requires

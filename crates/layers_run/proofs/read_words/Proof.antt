@@ -1,16 +1,16 @@
--- `read_set` is safe and ends, and meets its contract. Assumes nothing.
+-- `read_words` is safe and ends, and meets its contract. Assumes nothing.
 use borrow.Author.Needs.{needs}
 use Prim.Native.Nat.{_≤_, _-_}
 use mathlib.Core.Path.{_≡_}
 use lib.ListN.{length}
-use Rattle.layers_run.proofs.read_set.Statement.{statement}
-use Rattle.layers_run.proofs.read_set.Tie as tie
+use Rattle.layers_run.proofs.read_words.Statement.{statement}
+use Rattle.layers_run.proofs.read_words.Tie as tie
 
 abbrev Inv-loop : tie.InvT-loop
-Inv-loop s at set₀ next₀ i₀ set next i = (at ≤ next) × (next ≤ length s) × (length set ≡ length set₀) × (i ≤ length set₀)
+Inv-loop s at words₀ next₀ i₀ words next i = (at ≤ next) × (next ≤ length s) × (length words ≡ length words₀) × (i ≤ length words₀)
 
 abbrev μ-loop : tie.MeasureT-loop
-μ-loop s at set₀ next₀ i₀ set next i = length set₀ - i
+μ-loop s at words₀ next₀ i₀ words next i = length words₀ - i
 
 loop-holds : tie.Need-loop-holds Inv-loop μ-loop
 loop-holds c = search needs
@@ -18,11 +18,11 @@ loop-holds c = search needs
 number-requires : tie.Need-number-requires Inv-loop μ-loop
 number-requires c κs = search needs
 
-mul-set : tie.Need-mul-set Inv-loop μ-loop
-mul-set c = search needs
+mul-words : tie.Need-mul-words Inv-loop μ-loop
+mul-words c = search needs
 
-slice-write-set : tie.Need-slice-write-set Inv-loop μ-loop
-slice-write-set c = search needs
+slice-write-words : tie.Need-slice-write-words Inv-loop μ-loop
+slice-write-words c = search needs
 
 add-i : tie.Need-add-i Inv-loop μ-loop
 add-i c = search needs
@@ -39,16 +39,16 @@ same-length c = search needs
 returns : tie.Need-returns Inv-loop μ-loop
 returns c = search needs
 
-pub read-set-spec : {M : Type 1} → statement M
-read-set-spec =
+pub read-words-spec : {M : Type 1} → statement M
+read-words-spec =
     tie.close
     (tie.spec
     Inv-loop
     μ-loop
     loop-holds
     number-requires
-    mul-set
-    slice-write-set
+    mul-words
+    slice-write-words
     add-i
     loop-less
     loop-again

@@ -101,7 +101,7 @@ fn show_words(words: &[u64]) {
     }
 }
 
-// Shows the counts, each after a blank; the places past them, if one is not 0.
+// Shows the counts, each after a blank, and `left` for each place past them that is not 0.
 fn show_counts(c: Counts) {
     let counts = c.counts;
     let mut i = 0;

@@ -60,27 +60,27 @@ fn number(s: &[u8], at: usize) -> Read
     Read { value, next: i }
 }
 
-// As many numbers as there are words.
-fn read_words(s: &[u8], at: usize, words: &mut [u64]) -> usize
+// The smaller of the two.
+fn least(n: usize, most: usize) -> usize
+    ensures { λ r. ⌜ r ≤ most ⌝ }
+{
+    if n < most { n } else { most }
+}
+
+// The first n words become numbers of the input; no more than there are.
+fn read_words(s: &[u8], at: usize, n: usize, words: &mut [u64]) -> usize
     requires { ⌜ at ≤ length (now s) ⌝ }
     ensures { λ r. ⌜ (at ≤ r) × (r ≤ length (now (s .entry))) ⌝ }
 {
     let mut next = at;
     let mut i = 0;
-    while i < words.len() {
+    while i < least(n, words.len()) {
         let x = number(s, next);
         words[i] = x.value;
         next = x.next;
         i += 1;
     }
     next
-}
-
-// The smaller of the two.
-fn least(n: usize, most: usize) -> usize
-    ensures { λ r. ⌜ r ≤ most ⌝ }
-{
-    if n < most { n } else { most }
 }
 
 fn show_refused(f: u32) {
@@ -206,8 +206,8 @@ fn line(s: &[u8], at: usize, first: usize, second: usize, a: &mut [u64], b: &mut
     let letter = s[at];
     let x = number(s, at + 2);
     if letter == b'a' {
-        let n = least(x.value as usize, a.len());
-        let next = read_words(s, x.next, &mut a[0..n]);
+        let n = x.value as usize;
+        let next = read_words(s, x.next, n, a);
         return Step {
             first: n,
             second,
@@ -215,8 +215,8 @@ fn line(s: &[u8], at: usize, first: usize, second: usize, a: &mut [u64], b: &mut
         };
     }
     if letter == b'b' {
-        let n = least(x.value as usize, b.len());
-        let next = read_words(s, x.next, &mut b[0..n]);
+        let n = x.value as usize;
+        let next = read_words(s, x.next, n, b);
         return Step {
             first,
             second: n,

@@ -7,13 +7,16 @@ use Rattle.layers_run.proofs.read_words.Statement.{statement}
 use Rattle.layers_run.proofs.read_words.Tie as tie
 
 abbrev Inv-loop : tie.InvT-loop
-Inv-loop s at words₀ next₀ i₀ words next i = (at ≤ next) × (next ≤ length s) × (length words ≡ length words₀) × (i ≤ length words₀)
+Inv-loop s at n words₀ next₀ i₀ words next i = (at ≤ next) × (next ≤ length s) × (length words ≡ length words₀) × (i ≤ length words₀)
 
 abbrev μ-loop : tie.MeasureT-loop
-μ-loop s at words₀ next₀ i₀ words next i = length words₀ - i
+μ-loop s at n words₀ next₀ i₀ words next i = length words₀ - i
 
 loop-holds : tie.Need-loop-holds Inv-loop μ-loop
 loop-holds c = search needs
+
+least-requires : tie.Need-least-requires Inv-loop μ-loop
+least-requires c κs = search needs
 
 number-requires : tie.Need-number-requires Inv-loop μ-loop
 number-requires c κs = search needs
@@ -46,6 +49,7 @@ read-words-spec =
     Inv-loop
     μ-loop
     loop-holds
+    least-requires
     number-requires
     mul-words
     slice-write-words

@@ -76,7 +76,9 @@ def cases(lines):
     yield [0, 3, 2, 1, ONE, 2, NAN], 'refused 10'
     yield [1, 3, 2, 1, ONE, 2, NAN], 'refused 10'
     for made, feed, answer in REFUSED:
-        yield [3, *made, *feed], answer
+        # 13 is given first, and exactly for a set that is not well formed
+        formed, empty = not answer.startswith('13 '), made[1] == 0
+        yield [3, *made, *feed], ' '.join(['yes' if formed else 'no', 'yes' if empty else 'no', answer])
     for at, a, b, answer in NO_RECALL:
         yield [4, at, *a, *b], answer
 

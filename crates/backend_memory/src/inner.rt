@@ -66,7 +66,7 @@ pub fn refuse(num: u32) -> Fed
 {
     Fed {
         refusal: num,
-        set: ResultSet::empty(0),
+        set: result::inner::empty(0),
     }
 }
 

@@ -9,6 +9,8 @@ use lib.ListN.{length, getD}
 use lib.Pow.{shr-shr}
 use lib.Bits.{bitAnd, bitOr, bitXor, differ, and-step, or-step, xor-step, and-shr, or-shr, xor-shr}
 use Rattle.bitmaps.specs.Words.{digit, has, wordBut, byWord, union, exclusive, without, shared}
+-- every element is a word
+pub use Rattle.bitmaps.specs.Words.{Words}
 
 pub digit-lt : (a k : ℕ) → digit a k < 2
 digit-lt a k = omega arith
@@ -51,10 +53,6 @@ digit-ext (suc n) a b ha hb e =
     omega (arith, e 0 (omega arith))
 
 -- ---- the sets
-
--- every element is a word
-abbrev pub Words : List ℕ → Type 0
-Words a = (i : ℕ) → getD a i 0 < 2 ^ 64
 
 pub byWord-at : (f : ℕ → ℕ → ℕ) → f 0 0 ≡ 0 → (a b : List ℕ) → length a ≡ length b → (i : ℕ) → getD (byWord f a b) i 0 ≡ f (getD a i 0) (getD b i 0)
 unfolding byWord

@@ -1,5 +1,5 @@
 -- A set of ids is a list of words of 64 binary digits. Id i is digit i % 64 of word i / 64, the lowest digit being number 0.
-use Prim.Native.Nat.{ℕ, zero, suc, _+_, _-_, _/_, _%_, _^_}
+use Prim.Native.Nat.{ℕ, zero, suc, _+_, _-_, _/_, _%_, _^_, _<_}
 use mathlib.Core.Bool.{Bool}
 use mathlib.Core.List.{List, [], _∷_}
 use lib.ListN.{getD, set, replicate}
@@ -22,6 +22,10 @@ abbrev pub holds : List ℕ → ℕ → Bool
 holds s i = eqb (has s i) 1
 
 -- ---- the words: what the calls leave in memory, to the last digit
+
+-- every element is a word: a number of 64 digits, as lent memory holds
+abbrev pub Words : List ℕ → Type 0
+Words a = (i : ℕ) → getD a i 0 < 2 ^ 64
 
 -- an operation on two sets, word by word
 unfoldable pub byWord : (ℕ → ℕ → ℕ) → List ℕ → List ℕ → List ℕ

@@ -4,6 +4,7 @@ ghost use lib.ListN.{length};
 ghost use Rattle.bitmaps.specs.Words.{union, exclusive, without, inserted, size, holds, isEmpty, empty};
 ghost use Rattle.bitmaps.specs.Walk.{idsFrom, firstOf};
 ghost use Rattle.bitmaps.specs.Answers.{setFault, pairFault, idFault, Changed, AskedIs, CountedIs, WalkedIs};
+ghost use Rattle.bitmaps.specs.Laws.{Laws};
 
 pub mod inner;
 
@@ -180,3 +181,8 @@ pub fn xor(cap: usize, a: &mut [u64], b: &[u64]) -> u32
     inner::xor(a, b);
     0
 }
+
+// The laws of this crate, claimed: specs/Laws.antt says each of them.
+pub fn laws()
+    ensures { λ _. ⌜ Laws ⌝ }
+{}

@@ -1,15 +1,10 @@
-// Merges sequences of sets into counting layers and shows the layers, their counts, the dropped total and what top_k picks. The input has lines of
-// a letter and numbers in hexadecimal digits, each number with one byte after it:
-//   n LAYERS CAPACITY   a new case, with empty layers
-//   s WORD ..           a set of CAPACITY / 64 words, merged into the layers
-//   l                   shows the layers, the counts and the dropped total
-//   k SEARCH_K          shows what top_k picks
-ghost use mathlib.Core.Path.{_≡_};
-ghost use Prim.Native.Nat.{_+_, _/_, _≤_};
-ghost use lib.ListN.{length, take};
-ghost use Rattle.counting_bitmap.specs.Answers.{layersFault, topFault};
-ghost use Rattle.counting_bitmap.specs.TopLayer.{topOf};
-ghost use Rattle.layers_run.specs.Steps.{Lent, Stepped};
+// Runs every public call on counting layers and shows its answer and what it left. The input has lines of a letter and numbers in hexadecimal digits, each
+// number with one byte after it:
+//   a LEN WORD ..   the layers become LEN words
+//   b LEN WORD ..   so does the set
+//   LETTER CAP N K  a call with capacity CAP on N layers: m or with the set, g cardinalities, p top_k with search_k K, q top_k_number with search_k K
+ghost use Prim.Native.Nat.{_+_, _<_, _≤_};
+ghost use lib.ListN.{length};
 use counting_bitmap::Chosen;
 use counting_bitmap::Counts;
 use counting_bitmap::Merged;
@@ -22,18 +17,10 @@ struct Read {
     next: usize,
 }
 
-// The layers in use: how many, of which capacity, their words in all and of one layer; and what was dropped so far.
-struct Case {
-    n: usize,
-    cap: usize,
-    words: usize,
-    w: usize,
-    dropped: u64,
-}
-
-// A case after a line, and the place of the next line.
+// How many words of each memory are in use, and the place of the next line.
 struct Step {
-    case: Case,
+    first: usize,
+    second: usize,
     next: usize,
 }
 
@@ -72,215 +59,192 @@ fn number(s: &[u8], at: usize) -> Read
     Read { value, next: i }
 }
 
-// As many numbers as the set has words.
-fn read_set(s: &[u8], at: usize, set: &mut [u64]) -> usize
+// The smaller of the two.
+fn least(n: usize, most: usize) -> usize
+    ensures { λ r. ⌜ r ≤ most ⌝ }
+{
+    if n < most { n } else { most }
+}
+
+// The first n words become numbers of the input; no more than there are.
+fn read_words(s: &[u8], at: usize, n: usize, words: &mut [u64]) -> usize
     requires { ⌜ at ≤ length (now s) ⌝ }
     ensures { λ r. ⌜ (at ≤ r) × (r ≤ length (now (s .entry))) ⌝ }
 {
     let mut next = at;
     let mut i = 0;
-    while i < set.len() {
+    while i < least(n, words.len()) {
         let x = number(s, next);
-        set[i] = x.value;
+        words[i] = x.value;
         next = x.next;
         i += 1;
     }
     next
 }
 
-// Shows all words, each as sixteen digits after a blank, and answers how many.
-fn show_words(words: &[u64]) -> usize
-    ensures { λ r. ⌜ r ≡ length (now (words .entry)) ⌝ }
-{
+fn show_refused(f: u32) {
+    io::write_all(STDOUT_FILENO, b"refused ");
+    io::print_decimal(STDOUT_FILENO, f as u64);
+}
+
+fn wide(x: u32) -> u64 {
+    x as u64
+}
+
+// Shows all words, each after a blank.
+fn show_words(words: &[u64]) {
     let mut i = 0;
     while i < words.len() {
         io::write_all(STDOUT_FILENO, b" ");
-        io::print_hex(STDOUT_FILENO, words[i], 16);
+        io::print_hex(STDOUT_FILENO, words[i], 1);
         i += 1;
     }
-    i
 }
 
-// Shows the counts, each after a blank, and answers how many.
-fn show_counts(c: Counts) -> usize
-    ensures { λ r. ⌜ r ≤ c .count ⌝ }
-{
+// Shows the counts, each after a blank, and `left` for each place past them that is not 0.
+fn show_counts(c: Counts) {
     let counts = c.counts;
-    let count = c.count;
     let mut i = 0;
     while i < 32 {
-        if i >= count {
-            return i;
+        if i < c.count {
+            io::write_all(STDOUT_FILENO, b" ");
+            io::print_decimal(STDOUT_FILENO, wide(counts[i]));
+        } else {
+            if counts[i] != 0 {
+                io::write_all(STDOUT_FILENO, b" left");
+            }
         }
-        io::write_all(STDOUT_FILENO, b" ");
-        io::print_decimal(STDOUT_FILENO, counts[i] as u64);
         i += 1;
     }
-    i
 }
 
-// Shows the layers, the counts and the dropped total, a line for each, and answers the refusal of the counts.
-fn show_layers(g: Case, layers: &[u64]) -> u32
-    requires { ⌜ g .words ≤ length (now layers) ⌝ }
-    ensures { λ r. ⌜ r ≡ layersFault (g .cap) (g .n) (g .words) ⌝ }
-{
-    let words = g.words;
-    let c = counting_bitmap::cardinalities(g.cap, g.n, &layers[0..words]);
-    io::write_all(STDOUT_FILENO, b"layers");
-    show_words(&layers[0..words]);
-    io::write_all(STDOUT_FILENO, b"\ncounts");
-    show_counts(c);
-    io::write_all(STDOUT_FILENO, b"\ndropped ");
-    io::print_decimal(STDOUT_FILENO, g.dropped);
-    io::write_all(STDOUT_FILENO, b"\n");
-    c.refusal
+fn show_merged(r: Merged) {
+    match r {
+        Merged::Dropped(n) => {
+            io::write_all(STDOUT_FILENO, b"dropped ");
+            io::print_decimal(STDOUT_FILENO, n as u64);
+        }
+        Merged::Refused(f) => show_refused(f),
+    }
 }
 
-// Shows a search_k, and the number of the layer that it picks or the refusal, and answers the refusal.
-fn show_top(g: Case, layers: &[u64], search_k: u64) -> u32
-    requires { ⌜ g .words ≤ length (now layers) ⌝ }
-    ensures { λ r. ⌜ r ≡ topFault (layersFault (g .cap) (g .n) (g .words)) (topOf (g .n) (g .cap / 64) (take (g .words) (now (layers .entry))) «search_k») ⌝ }
-{
-    let words = g.words;
-    io::write_all(STDOUT_FILENO, b"topk ");
-    io::print_decimal(STDOUT_FILENO, search_k);
-    match counting_bitmap::top_k_number(g.cap, g.n, &layers[0..words], search_k as usize) {
+fn show_chosen(r: Chosen) {
+    match r {
         Chosen::Layer(i) => {
-            io::write_all(STDOUT_FILENO, b" ");
+            io::write_all(STDOUT_FILENO, b"layer ");
             io::print_decimal(STDOUT_FILENO, i as u64);
-            io::write_all(STDOUT_FILENO, b"\n");
-            0
         }
-        Chosen::Refused(f) => {
-            io::write_all(STDOUT_FILENO, b" refused ");
-            io::print_decimal(STDOUT_FILENO, f as u64);
-            io::write_all(STDOUT_FILENO, b"\n");
-            f
+        Chosen::Refused(f) => show_refused(f),
+    }
+}
+
+// The calls on layers.
+fn layered(letter: u8, cap: usize, n: usize, k: usize, a: &mut [u64], b: &mut [u64]) {
+    if letter == b'm' {
+        show_merged(counting_bitmap::or(cap, n, a, b));
+        show_words(a);
+        io::write_all(STDOUT_FILENO, b" |");
+        show_words(b);
+        return;
+    }
+    if letter == b'g' {
+        let c = counting_bitmap::cardinalities(cap, n, a);
+        if c.refusal == 0 {
+            io::write_all(STDOUT_FILENO, b"counts");
+        } else {
+            show_refused(c.refusal);
         }
+        show_counts(c);
+        return;
+    }
+    if letter == b'p' {
+        io::write_all(STDOUT_FILENO, b"part");
+        show_words(counting_bitmap::top_k(cap, n, a, k));
+        return;
+    }
+    if letter == b'q' {
+        show_chosen(counting_bitmap::top_k_number(cap, n, a, k));
     }
 }
 
-// A new case with empty layers; one of no words where the lent memory is too small.
-fn begun(n: u64, cap: u64, layers: &mut [u64], most: usize) -> Case
-    ensures { λ r. ⌜ Lent (length (now (layers .entry))) most r ⌝ }
-{
-    let none = Case {
-        n: 0,
-        cap: 0,
-        words: 0,
-        w: 0,
-        dropped: 0,
-    };
-    if n > 32 {
-        return none;
-    }
-    if cap > 65536 {
-        return none;
-    }
-    let w = (cap / 64) as usize;
-    let words = n as usize * w;
-    if w > most {
-        return none;
-    }
-    if words > layers.len() {
-        return none;
-    }
-    bitmaps::inner::clear(&mut layers[0..words]);
-    Case {
-        n: n as usize,
-        cap: cap as usize,
-        words,
-        w,
-        dropped: 0,
-    }
+// The call that a letter names; none for any other letter.
+fn call(
+    letter: u8,
+    cap: usize,
+    x: usize,
+    y: usize,
+    first: usize,
+    second: usize,
+    a: &mut [u64],
+    b: &mut [u64],
+) {
+    let n = least(first, a.len());
+    let m = least(second, b.len());
+    layered(letter, cap, x, y, &mut a[0..n], &mut b[0..m]);
+    io::write_all(STDOUT_FILENO, b"\n");
 }
 
-// The case with d more ids dropped.
-fn dropping(g: Case, d: u32) -> Case
-    ensures { λ r. ⌜ (r .words ≡ g .words) × (r .w ≡ g .w) ⌝ }
-{
-    Case {
-        n: g.n,
-        cap: g.cap,
-        words: g.words,
-        w: g.w,
-        dropped: std::num::wrapping_add_u64(g.dropped, d as u64),
-    }
-}
-
-// One line of the input. A line that is none of the four, or a case too large for the lent memory, changes nothing.
-fn line(s: &[u8], at: usize, g: Case, layers: &mut [u64], set: &mut [u64]) -> Step
-    requires { ⌜ (at + 2 ≤ length (now s)) × Lent (length (now layers)) (length (now set)) g ⌝ }
-    ensures { λ r. ⌜ Stepped (length (now (s .entry))) at (length (now (layers .entry))) (length (now (set .entry))) r ⌝ }
+// One line of the input.
+fn line(s: &[u8], at: usize, first: usize, second: usize, a: &mut [u64], b: &mut [u64]) -> Step
+    requires { ⌜ at + 2 ≤ length (now s) ⌝ }
+    ensures { λ r. ⌜ (at < r .next) × (r .next ≤ length (now (s .entry))) ⌝ }
 {
     let letter = s[at];
-    let from = at + 2;
-    let words = g.words;
-    let w = g.w;
-    let most = set.len();
-    if letter == b'n' {
-        let a = number(s, from);
-        let b = number(s, a.next);
+    let x = number(s, at + 2);
+    if letter == b'a' {
+        let n = x.value as usize;
+        let next = read_words(s, x.next, n, a);
         return Step {
-            case: begun(a.value, b.value, layers, most),
-            next: b.next,
+            first: n,
+            second,
+            next,
         };
     }
-    if letter == b's' {
-        let next = read_set(s, from, &mut set[0..w]);
-        return match counting_bitmap::or(g.cap, g.n, &mut layers[0..words], &mut set[0..w]) {
-            Merged::Dropped(d) => Step {
-                case: dropping(g, d),
-                next,
-            },
-            Merged::Refused(_) => Step { case: g, next },
-        };
-    }
-    if letter == b'l' {
-        show_layers(g, layers);
+    if letter == b'b' {
+        let n = x.value as usize;
+        let next = read_words(s, x.next, n, b);
         return Step {
-            case: g,
-            next: from,
+            first,
+            second: n,
+            next,
         };
     }
-    if letter == b'k' {
-        let x = number(s, from);
-        show_top(g, layers, x.value);
-        return Step {
-            case: g,
-            next: x.next,
-        };
-    }
+    let y = number(s, x.next);
+    let z = number(s, y.next);
+    call(
+        letter,
+        x.value as usize,
+        y.value as usize,
+        z.value as usize,
+        first,
+        second,
+        a,
+        b,
+    );
     Step {
-        case: g,
-        next: from,
+        first,
+        second,
+        next: z.next,
     }
 }
 
-// All lines; a last one of a single byte is left out. Answers where it ended.
-fn run(s: &[u8], layers: &mut [u64], set: &mut [u64]) -> usize
-    ensures { λ r. ⌜ r ≤ length (now (s .entry)) ⌝ }
-{
-    let mut g = Case {
-        n: 0,
-        cap: 0,
-        words: 0,
-        w: 0,
-        dropped: 0,
-    };
+// All lines; a last one of a single byte is left out.
+fn run(s: &[u8], a: &mut [u64], b: &mut [u64]) {
+    let mut first = 0;
+    let mut second = 0;
     let mut at = 0;
     while 2 <= s.len() - at {
-        let r = line(s, at, g, layers, set);
-        g = r.case;
+        let r = line(s, at, first, second, a, b);
+        first = r.first;
+        second = r.second;
         at = r.next;
     }
-    at
 }
 
 fn main() {
-    let mut buffer = io::large_buffer();
+    let mut buffer = [0u8; 131072];
     let got = io::read_full(STDIN_FILENO, &mut buffer);
-    let mut layers = [0u64; 1024];
-    let mut set = [0u64; 32];
-    run(&buffer[..got], &mut layers, &mut set);
+    let mut a = [0u64; 1056];
+    let mut b = [0u64; 1056];
+    run(&buffer[..got], &mut a, &mut b);
 }

@@ -13,7 +13,7 @@ use lib.Seq.{take-all}
 use Rattle.paper.specs.Choice.{pick}
 use Rattle.paper.proofs.Choice.{and-l, and-r}
 use Rattle.result.specs.Lists.{allOf, isHeld}
-use Rattle.result.specs.Ranked.{Entry, entry, larger, placed, lastBefore, stays, fed, inOrder}
+use Rattle.result.specs.Ranked.{Entry, entry, larger, placed, lastBefore, stays, fed, inOrder, OneWay, Through}
 use Rattle.result.specs.Places.{fullAbove}
 use Rattle.result.specs.Sets.{entriesOf, fedSet}
 use Rattle.result.specs.declared.ResultSet.{ResultSet}
@@ -23,9 +23,7 @@ use Rattle.result.proofs.Keeps.{heldE, all-sims, Sound, sound-fed, entr
 use Rattle.result.proofs.Order.{order-of, fed-order, larger-one-way}
 use Rattle.result.proofs.Sorted.{larger-through}
 
-module _ (before : Float → Float → Bool)
-    (one-way : (x y : Float) → before x y ≡ true → before y x ≡ false)
-    (through : (x y z : Float) → isHeld y ≡ true → before y x ≡ false → before z y ≡ false → before z x ≡ false) where
+module _ (before : Float → Float → Bool) (one-way : OneWay before) (through : Through before) where
   -- what b goes before, a goes before, if b does not go before a
   ahead-too : (x b a : Float) → isHeld a ≡ true → before b a ≡ false → before b x ≡ true → before a x ≡ true
   ahead-too x b a h p q = go (before a x) refl

@@ -16,6 +16,8 @@ use Rattle.result.specs.Ranked.{Entry, entry, larger, placed, stays, fed
 use Rattle.result.specs.Places.{entries, fullAbove}
 use Rattle.result.specs.Sets.{wellFormed, entriesOf, over, counted, fedSet, feedRefusal, feedOf, answer, emptySet}
 use Rattle.result.specs.declared.ResultSet.{ResultSet}
+pub use Rattle.result.specs.Ranked.{heldE}
+pub use Rattle.result.specs.Sets.{Sound}
 use Rattle.result.proofs.Puts.{len-is, sims-are, key-of, sim-of}
 use Rattle.result.proofs.Answers.{form, form-rest, fed-stays}
 
@@ -127,10 +129,6 @@ module _ {A : Type 0} (p : A → Bool) where
 
 -- ---- no NaN comes in, over any comparison
 
--- an entry that a set may hold
-abbrev pub heldE : Entry → Bool
-heldE e = isHeld (e .sim)
-
 pub all-sims : (es : List Entry) → allOf isHeld (map sim-of es) ≡ allOf heldE es
 all-sims [] = refl
 all-sims (e ∷ es) = ap (λ (b : Bool). isHeld (e .sim) and b) (all-sims es)
@@ -171,12 +169,7 @@ keeps s e hi hs hn w =
     ∙ all-later isZero (s .len) (length (map key-of new)) (s .ids) (omega arith) (f .blank-ids)) in
     sym (form-rest (fedSet s e) true true true (f .small) (l .1) a d i)
 
--- ---- a set as the calls hand it out: well formed, with 256 places in each array
-
-pub record Sound (s : ResultSet) : Type 0 where
-  pub formed : wellFormed s ≡ true
-  pub ids-long : length (s .ids) ≡ 256
-  pub sims-long : length (s .sims) ≡ 256
+-- ---- a set as the calls hand it out
 
 blank-zero : isBlank (ofBits binary32 0) ≡ true
 unfolding ofBits toBits isNan

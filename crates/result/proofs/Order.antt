@@ -10,7 +10,7 @@ use lib.Ieee.{Float, nan, inf, fin, up, down, lt, below}
 use lib.ListN.{take}
 use Rattle.paper.specs.Choice.{pick}
 use Rattle.paper.proofs.Choice.{and-l, and-r}
-use Rattle.result.specs.Ranked.{Entry, larger, placed, stays, fed, fedList, inOrder}
+use Rattle.result.specs.Ranked.{Entry, larger, placed, stays, fed, fedList, inOrder, OneWay}
 
 module _ (before : Float → Float → Bool) where
   -- whether x may stand ahead of the list
@@ -53,7 +53,7 @@ module _ (before : Float → Float → Bool) where
   pick-order true xs ys h k = h refl
   pick-order false xs ys h k = k refl
 
-  module _ (one-way : (x y : Float) → before x y ≡ true → before y x ≡ false) where
+  module _ (one-way : OneWay before) where
     placed-order : (e : Entry) (es : List Entry) → inOrder before es ≡ true → inOrder before (placed before e es) ≡ true
     unfolding inOrder
     placed-order e [] h = refl
@@ -96,5 +96,5 @@ lt-one (fin s m e) (inf true) h = let z : _≡_ {A = ℕ} 0 1 = cc in absurd (om
 lt-one (fin s m e) (inf false) h = refl
 lt-one (fin s m e) (fin t n d) h = below-one s (m * up e * down d) t (n * up d * down e) h
 
-pub larger-one-way : (x y : Float) → larger x y ≡ true → larger y x ≡ false
+pub larger-one-way : OneWay larger
 larger-one-way x y h = lt-one y x h

@@ -13,7 +13,7 @@ use lib.Ieee.Positive as Positive
 use lib.ListN.{length, getD}
 use Rattle.paper.proofs.Choice.{and-l, and-r}
 use Rattle.result.specs.Lists.{allOf, isHeld}
-use Rattle.result.specs.Ranked.{Entry, larger, fed, fedList, inOrder}
+use Rattle.result.specs.Ranked.{Entry, larger, fed, fedList, inOrder, Through}
 use Rattle.result.specs.Sets.{entriesOf, emptySet, fedAll}
 use Rattle.result.proofs.Keeps.{heldE, entries-none, fed-all}
 use Rattle.result.proofs.Order.{order-of}
@@ -21,7 +21,7 @@ use Rattle.result.proofs.Grown.{all-entries, grown-order}
 
 -- ---- along a list, over any comparison that goes through held scores
 
-module _ (before : Float → Float → Bool) (through : (x y z : Float) → isHeld y ≡ true → before y x ≡ false → before z y ≡ false → before z x ≡ false) where
+module _ (before : Float → Float → Bool) (through : Through before) where
   first-before : (x d : Entry) (ys : List Entry) (j : ℕ) → inOrder before (x ∷ ys) ≡ true → allOf heldE ys ≡ true → j < length ys
       → before (getD ys j d .sim) (x .sim) ≡ false
   first-before x d [] j o a h = absurd (not-suc-le-zero h)
@@ -100,7 +100,7 @@ lt-through (fin s a e) (fin t b f) (inf u) n h k = k
 lt-through (fin s a e) (fin t b f) (fin u c g) n h k =
     below-through s t u (a * up e) (b * up f) (c * up g) (down e) (down f) (down g) (down-pos e) (down-pos f) (down-pos g) h k
 
-pub larger-through : (x y z : Float) → isHeld y ≡ true → larger y x ≡ false → larger z y ≡ false → larger z x ≡ false
+pub larger-through : Through larger
 larger-through = lt-through
 
 -- ---- a set grown from empty

@@ -1,11 +1,13 @@
 -- A ranked list of entries, and what feeding one more makes of it. All of it is over a comparison: `before x y` says that the score x goes before the score y.
 use Prim.Native.Nat.{ℕ}
 use mathlib.Core.Bool.{Bool, true, false, not}
+use mathlib.Core.Path.{_≡_}
 use mathlib.Core.List.{List, [], _∷_}
 use lib.Dec.{eqb}
 use lib.ListN.{take, length}
 use lib.Ieee.{Float, lt}
 use Rattle.paper.specs.Choice.{_and_, pick}
+use Rattle.result.specs.Lists.{isHeld}
 
 -- an id with its score
 pub record Entry : Type 0 where
@@ -14,6 +16,10 @@ pub record Entry : Type 0 where
 
 abbrev pub entry : ℕ → Float → Entry
 entry id score = record { key = id; sim = score }
+
+-- an entry that a set may hold: its score is no NaN
+abbrev pub heldE : Entry → Bool
+heldE e = isHeld (e .sim)
 
 -- the one rule of ranking: the larger score goes first
 abbrev pub larger : Float → Float → Bool
@@ -48,3 +54,13 @@ unfoldable pub inOrder : (Float → Float → Bool) → List Entry → Bool
 inOrder before [] = true
 inOrder before (x ∷ []) = true
 inOrder before (x ∷ y ∷ ys) = not (before (y .sim) (x .sim)) and inOrder before (y ∷ ys)
+
+-- ---- what a comparison has to be for the laws
+
+-- it goes one way: of two scores at most one goes before the other
+abbrev pub OneWay : (Float → Float → Bool) → Type 0
+OneWay before = (x y : Float) → before x y ≡ true → before y x ≡ false
+
+-- it goes through held scores: where y does not go before x, nor z before y, z does not go before x
+abbrev pub Through : (Float → Float → Bool) → Type 0
+Through before = (x y z : Float) → isHeld y ≡ true → before y x ≡ false → before z y ≡ false → before z x ≡ false

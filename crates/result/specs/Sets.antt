@@ -1,6 +1,7 @@
 -- A result set, and what each call makes of one.
 use Prim.Native.Nat.{ℕ, _+_}
-use mathlib.Core.Bool.{Bool, not}
+use mathlib.Core.Bool.{Bool, true, not}
+use mathlib.Core.Path.{_≡_}
 use mathlib.Core.List.{List, [], _∷_, _++_, map}
 use lib.Dec.{eqb, leb}
 use lib.ListN.{take, drop, length, replicate}
@@ -17,6 +18,12 @@ unfoldable pub wellFormed : ResultSet → Bool
 wellFormed s =
     leb (s .k) 256 and leb (s .len) (s .k) and allOf isHeld (take (s .len) (s .sims)) and allOf isBlank (drop (s .len) (s .sims))
     and allOf isZero (drop (s .len) (s .ids))
+
+-- a set as the calls hand it out: well formed, with 256 places in each array
+pub record Sound (s : ResultSet) : Type 0 where
+  pub formed : wellFormed s ≡ true
+  pub ids-long : length (s .ids) ≡ 256
+  pub sims-long : length (s .sims) ≡ 256
 
 -- what the set holds, best first
 unfoldable pub entriesOf : ResultSet → List Entry

@@ -1,4 +1,4 @@
-// Feeding with no test of the 256 places, for callers that know that the set is well formed.
+// Making and feeding with no test, for callers that know that k is at most 256 and that the set is well formed.
 ghost use mathlib.Core.Path.{_≡_};
 ghost use mathlib.Core.List.{_++_};
 ghost use Prim.Native.Nat.{_≤_, _<_};
@@ -6,7 +6,7 @@ ghost use lib.ListN.{drop, take, length};
 ghost use Rattle.result.specs.Lists.{insertAt};
 ghost use Rattle.result.specs.Ranked.{entry};
 ghost use Rattle.result.specs.Places.{Found, entries, fullAbove};
-ghost use Rattle.result.specs.Sets.{fedSet};
+ghost use Rattle.result.specs.Sets.{emptySet, fedSet};
 ghost use Rattle.result.specs.Puts.{putIn, setOf};
 use super::ResultSet;
 
@@ -14,6 +14,22 @@ use super::ResultSet;
 enum Place {
     At(usize),
     Held,
+}
+
+// An empty set for at most k entries.
+pub fn empty(k: usize) -> ResultSet
+    requires { ⌜ k ≤ 256 ⌝ }
+    ensures { λ r. ⌜ r ≡ emptySet k ⌝ }
+{
+    let ids = [0u32; 256];
+    let sims = [0.0f32; 256];
+    ResultSet {
+        ids,
+        sims,
+        len: 0,
+        k,
+        checked: 0,
+    }
 }
 
 // Whether a list of len is full and its last score is greater than the new one. A loop that feeds many candidates may ask this first, and then

@@ -4,9 +4,10 @@ ghost use Prim.Native.Nat.{_≤_, min};
 ghost use lib.Dec.{eqb};
 ghost use lib.ListN.{drop, take, length};
 ghost use Rattle.result.specs.Lists.{allOf, isZero, isBlank, isHeld};
-ghost use Rattle.result.specs.Sets.{emptySet, madeOf, wellFormed, entriesOf, feedOf};
-ghost use Rattle.result.specs.Reads.{listedAt};
+ghost use Rattle.result.specs.Sets.{madeOf, wellFormed, entriesOf, feedOf};
+ghost use Rattle.result.specs.Reads.{ListedIs};
 ghost use Rattle.result.specs.Recalls.{countOf, pairsOf, toldBy, recallOf};
+ghost use Rattle.result.specs.Laws.{Laws};
 
 pub mod inner;
 
@@ -140,27 +141,12 @@ impl ResultSet {
         if 256 < k {
             return Fed {
                 refusal: paper::WRONG_K,
-                set: ResultSet::empty(0),
+                set: inner::empty(0),
             };
         }
         Fed {
             refusal: 0,
-            set: ResultSet::empty(k),
-        }
-    }
-
-    // An empty set that says k, with no test of it: for callers that made the test themselves.
-    pub fn empty(k: usize) -> Self
-        ensures { λ r. ⌜ r ≡ emptySet k ⌝ }
-    {
-        let ids = [0u32; 256];
-        let sims = [0.0f32; 256];
-        ResultSet {
-            ids,
-            sims,
-            len: 0,
-            k,
-            checked: 0,
+            set: inner::empty(k),
         }
     }
 
@@ -201,7 +187,7 @@ impl ResultSet {
     // Entry i of the list, counted from 0, and Past where the list has no entry i. Refuses nothing: of a set that isn't well formed it reads
     // what stands in the first len places of its arrays.
     pub fn result_at(self, i: usize) -> Listed
-        ensures { λ r. ⌜ r ≡ listedAt (entriesOf self) i ⌝ }
+        ensures { λ r. ⌜ ListedIs (entriesOf self) i r ⌝ }
     {
         if self.len <= i {
             return Listed::Past;
@@ -275,11 +261,7 @@ impl ResultSet {
     }
 }
 
-// Feeds a set that stays in a local, in place. Its parameters are plain values, so whoever calls it needs to know nothing of references.
-pub fn fed_in_place(set: ResultSet, id: u32, similarity: f32) -> Fed
-    ensures { λ r. ⌜ r ≡ feedOf set id similarity ⌝ }
-{
-    let mut kept = set;
-    let refusal = kept.add_result(id, similarity);
-    Fed { refusal, set: kept }
-}
+// The laws of this crate, claimed: specs/Laws.antt says each of them.
+pub fn laws()
+    ensures { λ _. ⌜ Laws ⌝ }
+{}

@@ -3,7 +3,8 @@
 //   0  k, m, m times id and score: a set fed by value; prints checked, the length and the entries
 //   1  the same, for a set fed in place
 //   2  at, then two times k, m and m times id and score: the recall of the first set against the second; prints its 64 bits
-//   3  a set's k, len, checked, one place with its id and score, then the id and score to feed: prints the refusal, then len and checked after it
+//   3  a set's k, len, checked, one place with its id and score, then the id and score to feed: prints whether the set is well formed and whether it is empty, then
+//      the refusal, and len and checked after it
 //   4  at, then two times a set's k, len, checked, one place with its id and score: prints the refusal of a recall
 use libc::STDIN_FILENO;
 use libc::STDOUT_FILENO;
@@ -51,6 +52,14 @@ fn number(n: u64) {
     io::print_decimal(STDOUT_FILENO, n);
 }
 
+fn flag(b: bool) {
+    if b {
+        io::write_all(STDOUT_FILENO, b"yes ");
+    } else {
+        io::write_all(STDOUT_FILENO, b"no ");
+    }
+}
+
 fn show_entry(e: SearchResult) {
     space();
     number(e.id as u64);
@@ -75,12 +84,21 @@ fn show(set: ResultSet) {
     line();
 }
 
+// One feed of a set that stays in a local and is lent.
+fn fed_in_place(set: ResultSet, id: u32, similarity: f32) -> Fed
+    ensures { λ r. ⌜ r ≡ feedOf set id similarity ⌝ }
+{
+    let mut kept = set;
+    let refusal = kept.add_result(id, similarity);
+    Fed { refusal, set: kept }
+}
+
 // One feed, by value or in place.
 fn fed(set: ResultSet, id: u32, similarity: f32, in_place: bool) -> Fed
     ensures { λ r. ⌜ r ≡ feedOf set id similarity ⌝ }
 {
     if in_place {
-        return result::fed_in_place(set, id, similarity);
+        return fed_in_place(set, id, similarity);
     }
     set.feed(id, similarity)
 }
@@ -151,9 +169,15 @@ fn show_recall(r: Recall) {
 fn made_up(input: &[u8], at: usize) -> ResultSet
     requires { ⌜ at < 1099511627776 ⌝ }
 {
-    let mut set = ResultSet::empty(word(input, at) as usize);
-    set.len = word(input, at + 1) as usize;
-    set.checked = word(input, at + 2);
+    let ids = [0u32; 256];
+    let sims = [0.0f32; 256];
+    let mut set = ResultSet {
+        ids,
+        sims,
+        len: word(input, at + 1) as usize,
+        k: word(input, at) as usize,
+        checked: word(input, at + 2),
+    };
     let place = word(input, at + 3) as usize;
     if place < 256 {
         set.ids[place] = word(input, at + 4);
@@ -197,6 +221,8 @@ fn refusing(input: &[u8], at: usize) -> usize
     let set = made_up(input, at);
     let id = word(input, at + 6);
     let similarity = sqrt::of_bits(word(input, at + 7));
+    flag(set.well_formed());
+    flag(set.is_empty());
     let f = set.feed(id, similarity);
     number(f.refusal as u64);
     space();

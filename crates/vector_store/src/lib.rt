@@ -24,7 +24,7 @@ fn refuse(num: u32) -> Nearest
 {
     Nearest {
         refusal: num,
-        set: ResultSet::empty(0),
+        set: result::inner::empty(0),
         dropped: 0,
     }
 }

@@ -1,17 +1,16 @@
--- `run` is safe and ends, and meets its contract. Assumes nothing.
+-- `run` is safe and ends. Assumes nothing.
 use borrow.Author.Needs.{needs}
 use Prim.Native.Nat.{_≤_, _-_}
 use mathlib.Core.Path.{_≡_}
 use lib.ListN.{length}
-use Rattle.layers_run.specs.Steps.{Lent}
 use Rattle.layers_run.proofs.run.Statement.{statement}
 use Rattle.layers_run.proofs.run.Tie as tie
 
 abbrev Inv-loop : tie.InvT-loop
-Inv-loop s layers₀ set₀ g₀ at₀ layers set g at = (at ≤ length s) × (length layers ≡ length layers₀) × (length set ≡ length set₀) × Lent (length layers₀) (length set₀) g
+Inv-loop s a₀ b₀ first₀ second₀ at₀ a b first second at = (at ≤ length s) × (length a ≡ length a₀) × (length b ≡ length b₀)
 
 abbrev μ-loop : tie.MeasureT-loop
-μ-loop s layers₀ set₀ g₀ at₀ layers set g at = length s - at
+μ-loop s a₀ b₀ first₀ second₀ at₀ a b first second at = length s - at
 
 loop-holds : tie.Need-loop-holds Inv-loop μ-loop
 loop-holds c = search needs

@@ -1,4 +1,4 @@
--- `show_words` is safe and ends, and meets its contract. Assumes nothing.
+-- `show_words` is safe and ends. Assumes nothing.
 use borrow.Author.Needs.{needs}
 use Prim.Native.Nat.{_≤_, _-_}
 use lib.ListN.{length}

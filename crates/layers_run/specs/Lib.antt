@@ -1,2 +1,0 @@
--- What the program's parts promise.
-pub mod Steps

@@ -14,7 +14,7 @@ use Rattle.index_memory.specs.Memory.{Ix, floatZeros}
 use Rattle.vector.specs.Finite.{allFinite}
 use Rattle.vector.specs.Norm.{normNumber}
 use Rattle.basis.specs.Bases.{projectionsFinite}
-use Rattle.adding.specs.Adding.{faceSlot, addedIx, writtenIx, lengthsOk, shapeRefusal, lateRefusal, addRefusal, added, workAfter, addOf, SlotsAre}
+use Rattle.adding.specs.Adding.{faceSlot, addedIx, writtenIx, lengthsOk, addShape, lateRefusal, addRefusal, added, workAfter, addOf, SlotsAre}
 use Rattle.adding.proofs.Shape.{shape-high}
 use Rattle.adding.proofs.Turns.{with-same}
 
@@ -60,10 +60,10 @@ written-is g bs id v ix slots h = rw (with-same (g .d) (g .cap) id (λ b. getD s
 -- 1, 2, 3, then 5, then the late ones: the same order
 pub refusal-split : (g : Geo) (bs : List Float) (id : ℕ) (v : List Float) (ix : Ix) (work : List Float)
     → addRefusal g bs id v ix work
-    ≡ pick (eqb (shapeRefusal g id (length bs) (length (ix .faces)) (length (ix .marks)) (length (ix .vecs)) (length work) (length v)) 0)
+    ≡ pick (eqb (addShape g id (length bs) (length (ix .faces)) (length (ix .marks)) (length (ix .vecs)) (length work) (length v)) 0)
     (refuse 5 (allFinite v) (lateRefusal (g .d) (g .n) bs v))
-    (shapeRefusal g id (length bs) (length (ix .faces)) (length (ix .marks)) (length (ix .vecs)) (length work) (length v))
-unfolding addRefusal shapeRefusal lateRefusal
+    (addShape g id (length bs) (length (ix .faces)) (length (ix .marks)) (length (ix .vecs)) (length work) (length v))
+unfolding addRefusal addShape lateRefusal
 refusal-split g bs id v ix work =
     go (geoOk (g .d) (g .n) (g .cap) (g .mode)) (lengthsOk g (length bs) (length (ix .faces)) (length (ix .marks)) (length (ix .vecs)) (length work) (length v)) (ltb id (g .cap)) _
   where
@@ -85,7 +85,7 @@ late-work d n bs v w = late-cases (eqb (normNumber v) 0) (projectionsFinite d bs
 
 module _ (g : Geo) (bs : List Float) (id : ℕ) (v : List Float) (ix : Ix) (work : List Float) where
   abbrev shape : ℕ
-  shape = shapeRefusal g id (length bs) (length (ix .faces)) (length (ix .marks)) (length (ix .vecs)) (length work) (length v)
+  shape = addShape g id (length bs) (length (ix .faces)) (length (ix .marks)) (length (ix .vecs)) (length work) (length v)
 
   pub shape-refused : (s : ℕ) → s ≡ shape → (s ≡ 0 → ⊥) → added s ix work ≡ addOf g bs id v ix work
   unfolding addOf workAfter

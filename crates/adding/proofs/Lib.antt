@@ -1,4 +1,4 @@
 pub mod Shape
 pub mod Turns
 pub mod Cases
-pub mod Laws
+pub mod Accepted

@@ -83,8 +83,8 @@ addOf g bs id v ix work =
 -- ---- what the private functions ask and give
 
 -- the first three refusals, and the two that are found while the work memory is in use
-unfoldable pub shapeRefusal : Geo → ℕ → ℕ → ℕ → ℕ → ℕ → ℕ → ℕ → ℕ
-shapeRefusal g id lb lf lm lv lw lx =
+unfoldable pub addShape : Geo → ℕ → ℕ → ℕ → ℕ → ℕ → ℕ → ℕ → ℕ
+addShape g id lb lf lm lv lw lx =
     refuse 1 (geoOk (g .d) (g .n) (g .cap) (g .mode)) (refuse 2 (lengthsOk g lb lf lm lv lw lx) (refuse 3 (ltb id (g .cap)) 0))
 
 unfoldable pub lateRefusal : ℕ → ℕ → List Float → List Float → ℕ

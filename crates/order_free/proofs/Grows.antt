@@ -23,8 +23,8 @@ use Rattle.bitmaps.proofs.Digits.{Words}
 use Rattle.vector.specs.Norm.{normalized}
 use Rattle.quantization.specs.Stored.{lowerBytes}
 use Rattle.adding.specs.Adding.{faceSlot, withFaces, withVector, addedIx, Shaped}
-use Rattle.adding.proofs.Laws.{length-stored, face-slot-low}
-use Rattle.order_free.specs.Order.{Addition, Call, whats, Lent, run}
+use Rattle.adding.proofs.Accepted.{length-stored, face-slot-low}
+use Rattle.order_free.specs.Order.{Addition, Call, whats, WorkLent, run}
 use Rattle.order_free.specs.Grown.{lastOr, taken, takenAs, faceAmong, takenAt, Grown}
 use Rattle.bitmaps.proofs.Members.{has-empty, same-words, words-empty}
 use Rattle.order_free.proofs.Words.{has-put, words-inserted}
@@ -217,7 +217,7 @@ module _ (g : Geo) (bs : List Float) where
       }
 
   -- THE FINAL INDEX: additions to an empty index leave the index that Grown says, whatever work memory the calls are lent
-  pub grown-run : (cs : List Call) → Lent g cs → Grown g bs (whats cs) (run g bs cs (emptyIx g))
+  pub grown-run : (cs : List Call) → WorkLent g cs → Grown g bs (whats cs) (run g bs cs (emptyIx g))
   grown-run cs l = subst (λ (x : Ix). Grown g bs (whats cs) x) (sym (run-is g bs cs (emptyIx g) l)) (grown-puts (whats cs))
 
   -- and Grown says it all: two indexes of which it holds are equal, byte for byte

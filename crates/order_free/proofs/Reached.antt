@@ -9,11 +9,11 @@ use Rattle.paper.specs.Geometry.{Geo, geoOk}
 use Rattle.index_memory.specs.Memory.{Ix, emptyIx, ownOkIx, ownRefusal}
 use Rattle.adding.specs.Adding.{Added, added, addOf}
 use Rattle.merging.specs.Merging.{Done, done, emptyOf, mergeOf}
-use Rattle.order_free.specs.Order.{Addition, Call, whats, Lent, step, run, swap, Deal, one, two, built, Accepted, calls, filled, FillArgs}
+use Rattle.order_free.specs.Order.{Addition, Call, whats, WorkLent, step, run, swap, Deal, one, two, built, AllAccepted, calls, filled, FillArgs}
 use Rattle.order_free.proofs.Orders.{run-is, puts, run-shuffle}
 use Rattle.order_free.proofs.Deals.{any-deal, puts-append}
 
-lent-calls : (g : Geo) (xs : List Addition) → Lent g (calls g xs)
+lent-calls : (g : Geo) (xs : List Addition) → WorkLent g (calls g xs)
 lent-calls g [] = tt
 lent-calls g (a ∷ xs) = (length-replicate (g .d) _, lent-calls g xs)
 
@@ -64,7 +64,7 @@ module _ (g : Geo) (bs : List Float) where
   pair a b = two (one (calls g (a ∷ []))) (one (calls g (b ∷ [])))
 
   both-deals : geoOk (g .d) (g .n) (g .cap) (g .mode) ≡ true → (a b : Addition) → (a .id ≡ b .id → ⊥)
-      → (built g bs (pair a b) ≡ run g bs (calls g (b ∷ a ∷ [])) (emptyIx g)) × Accepted g bs (pair a b)
+      → (built g bs (pair a b) ≡ run g bs (calls g (b ∷ a ∷ [])) (emptyIx g)) × AllAccepted g bs (pair a b)
   both-deals good a b ne =
       any-deal g bs good (calls g (b ∷ a ∷ [])) (lent-calls g (b ∷ a ∷ [])) ((ne, tt), (tt, tt)) (pair a b) (length-replicate (g .d) _, (length-replicate (g .d) _, tt)) swap
 

@@ -3,7 +3,7 @@ use Prim.Native.Nat.{ℕ, _*_, _<_}
 use mathlib.Core.Path.{_∙_, sym, refl, subst}
 use Rattle.paper.specs.Geometry.{geo}
 use Rattle.adding.proofs.Cases.{late-six, late-seven, late-none, was-finite, was-not, written-is}
-use Rattle.adding.proofs.Laws.{face-slot-low}
+use Rattle.adding.proofs.Accepted.{face-slot-low}
 use borrow.Author.Needs.{needs}
 use Rattle.adding.proofs.check_and_write.Statement.{statement}
 use Rattle.adding.proofs.check_and_write.Tie as tie

@@ -25,7 +25,7 @@ use Rattle.faces.proofs.Laws.{slot-low}
 use Rattle.quantization.specs.Stored.{lowerBytes, components, restored, Fit}
 use Rattle.quantization.proofs.Stored.{components-back}
 use Rattle.basis.specs.Bases.{basisAt, projectionAt, projectionsFinite}
-use Rattle.adding.specs.Adding.{faceSlot, withVector, addedIx, shapeRefusal, lateRefusal, addRefusal, addOf, Shaped}
+use Rattle.adding.specs.Adding.{faceSlot, withVector, addedIx, addShape, lateRefusal, addRefusal, addOf, Shaped}
 use Rattle.adding.proofs.Shape.{shaped}
 use Rattle.adding.proofs.Turns.{length-lowered}
 use Rattle.adding.proofs.Cases.{refusal-split}
@@ -59,7 +59,7 @@ norm-none true false c e = let no : ⊥ = omega arith in absurd no
 norm-none false b c e = let no : ⊥ = omega arith in absurd no
 
 module _ (g : Geo) (bs : List Float) (id : ℕ) (v : List Float) (ix : Ix) (work : List Float) (e : addRefusal g bs id v ix work ≡ 0) where
-  split : (shapeRefusal g id (length bs) (length (ix .faces)) (length (ix .marks)) (length (ix .vecs)) (length work) (length v) ≡ 0) × (refuse 5 (allFinite v) (lateRefusal (g .d) (g .n) bs v) ≡ 0)
+  split : (addShape g id (length bs) (length (ix .faces)) (length (ix .marks)) (length (ix .vecs)) (length work) (length v) ≡ 0) × (refuse 5 (allFinite v) (lateRefusal (g .d) (g .n) bs v) ≡ 0)
   split = first-none _ _ (sym (refusal-split g bs id v ix work) ∙ e)
 
   pub accepted-shape : Shaped g id (length bs) (length (ix .faces)) (length (ix .marks)) (length (ix .vecs)) (length work) (length v)

@@ -1,5 +1,5 @@
--- Laws for the crates above. Assumes nothing.
-use Prim.Native.Nat.{ℕ, zero, suc, _+_, _*_, _/_, _%_, _<_, _≤_}
+-- What an accepted addition passed, and that its stored vector reads back. Assumes nothing.
+use Prim.Native.Nat.{ℕ, zero, suc, _+_, _*_, _<_, _≤_}
 use mathlib.Core.Path.{_≡_, refl, sym, ap, subst, _∙_}
 use mathlib.Core.List.{List, [], _∷_, map}
 use mathlib.Core.Bool.{Bool, true, false}
@@ -9,13 +9,12 @@ use borrow.Author.Tests.{eqb-true, eqb-false, eq-eqb}
 use lib.Dec.{T, eqb}
 use lib.Ieee.{Float, binary32, fits}
 use lib.Ieee.Fits.{nan-fits, div-fits}
-use lib.ListN.{length, take, drop}
-use lib.Seq.{sets, getD-take, getD-drop}
+use lib.ListN.{length}
+use lib.Seq.{sets}
 use Rattle.paper.specs.Choice.{pick, refuse}
-use Rattle.paper.specs.Geometry.{Geo, compSize, setWords}
-use Rattle.index_memory.specs.Memory.{Ix, faceBit, slotBytes, slotAt}
-use Rattle.index_memory.proofs.Places.{place, face-bit-word, face-bit-digit}
-use Rattle.bitmaps.specs.Words.{has}
+use Rattle.paper.specs.Geometry.{Geo, compSize}
+use Rattle.index_memory.specs.Memory.{Ix, slotBytes, slotAt}
+use Rattle.index_memory.proofs.Places.{place}
 use Rattle.vector.specs.Finite.{allFinite}
 use Rattle.vector.specs.Norm.{normNumber, normOf, normalized}
 use Rattle.vector.proofs.Laws.{length-normalized}
@@ -80,7 +79,7 @@ unfolding normalized
 fit-normalized v e = rw (eq-eqb (normNumber v) 0 e) (fit-map _ (λ x. div-fits binary32 x (normOf v)) v)
 
 -- THE STORED VECTOR: after an accepted addition the id's slot reads back as the components of the normalised vector, each as the mode keeps it
-pub stored-back : (g : Geo) (bs : List Float) (id : ℕ) (v : List Float) (ix : Ix) (work : List Float) → addRefusal g bs id v ix work ≡ 0
+pub stored-back : (g : Geo) (bs : List Float) (id : ℕ) (v : List Float) (ix : Ix) (work : List Float) → addOf g bs id v ix work .answer ≡ 0
     → components (g .mode) (addOf g bs id v ix work .ix .vecs) (slotAt (g .d) (g .mode) id) (g .d) ≡ map (restored (g .mode)) (normalized v)
 unfolding addOf addedIx withVector
 stored-back g bs id v ix work e =
@@ -90,11 +89,3 @@ stored-back g bs id v ix work e =
     rw (l, s .vectors, mul-comm (g .d) (compSize (g .mode))) (place id (g .cap) (slotBytes (g .d) (g .mode)) (s .id-low)) in
     rw (e) (ap (λ (k : ℕ). components (g .mode) (sets (ix .vecs) (slotAt (g .d) (g .mode) id) (lowerBytes (g .mode) (normalized v))) (slotAt (g .d) (g .mode) id) k) (sym l)
     ∙ components-back (g .mode) (ix .vecs) (slotAt (g .d) (g .mode) id) (normalized v) (fit-normalized v (accepted-norm g bs id v ix work e)) room)
-
--- ---- a face set as a search reads it: the part of W words that begins at word (b * 2d + slot) * W
-
-pub face-set-has : (d cap b slot i : ℕ) (fs : List ℕ) → cap % 64 ≡ 0 → i < cap
-    → has (take (setWords cap) (drop ((b * (2 * d) + slot) * setWords cap) fs)) i ≡ has fs (faceBit d cap b slot i)
-face-set-has d cap b slot i fs e h =
-    let l : i / 64 < setWords cap = omega arith in
-    rw (face-bit-word d cap b slot i e, face-bit-digit d cap b slot i e, getD-take (setWords cap) (drop ((b * (2 * d) + slot) * setWords cap) fs) (i / 64) 0 l, getD-drop ((b * (2 * d) + slot) * setWords cap) fs (i / 64) 0)

@@ -52,7 +52,7 @@ was-not false r e z = refl
 
 pub written-is : (g : Geo) (bs : List Float) (id : ℕ) (v : List Float) (ix : Ix) (slots : List ℕ)
     → ((b : ℕ) → b < g .n → getD slots b 0 ≡ faceSlot (g .d) bs v b) → writtenIx g (λ b. getD slots b 0) id v ix ≡ addedIx g bs id v ix
-unfolding writtenIx addedIx
+unfolding addedIx
 written-is g bs id v ix slots h = rw (with-same (g .d) (g .cap) id (λ b. getD slots b 0) (faceSlot (g .d) bs v) (g .n) (ix .faces) h)
 
 -- ---- the call

@@ -10,6 +10,7 @@ ghost use Rattle.index_memory.specs.Memory.{ixOf};
 ghost use Rattle.vector.specs.Norm.{normNumber, normalized};
 ghost use Rattle.quantization.specs.Stored.{lowerBytes};
 ghost use Rattle.adding.specs.Adding.{lentOk, addShape, lateRefusal, withFaces, withVector, writtenIx, addedIx, added, addOf, SlotArgs, SlotsAre, FaceArgs, VecArgs, WriteArgs, Shaped};
+ghost use Rattle.adding.specs.Laws.{Laws};
 
 // Refusal 7 or 0, and for 0 the slot of a vector's face in each basis.
 struct Slots {
@@ -243,4 +244,10 @@ pub fn add_vector(
     let r = check_and_write(bases, faces, marks, vectors, work, v, d, n, cap, mode, id);
     index_memory::inner::clear_floats(work);
     r
+}
+
+// The laws of this crate, claimed: specs/Laws.antt says each of them.
+pub fn laws()
+    ensures { λ _. ⌜ Laws ⌝ }
+{
 }

@@ -52,10 +52,11 @@ first-none s rest e = go (eqb s 0) refl e
     go true p e = (eqb-true s 0 p, e)
     go false p e = absurd (eqb-false s 0 p e)
 
-norm-none : (a b c : Bool) → refuse 5 a (refuse 6 b (refuse 7 c 0)) ≡ 0 → b ≡ true
-norm-none true true c e = refl
-norm-none true false c e = let no : ⊥ = omega arith in absurd no
-norm-none false b c e = let no : ⊥ = omega arith in absurd no
+late-passed : (a b c : Bool) → refuse 5 a (refuse 6 b (refuse 7 c 0)) ≡ 0 → (b ≡ true) × (c ≡ true)
+late-passed true true true e = (refl, refl)
+late-passed true true false e = let no : ⊥ = omega arith in absurd no
+late-passed true false c e = let no : ⊥ = omega arith in absurd no
+late-passed false b c e = let no : ⊥ = omega arith in absurd no
 
 module _ (g : Geo) (bs : List Float) (id : ℕ) (v : List Float) (ix : Ix) (work : List Float) (e : addRefusal g bs id v ix work ≡ 0) where
   split : (addShape g id (length bs) (length (ix .faces)) (length (ix .marks)) (length (ix .vecs)) (length work) (length v) ≡ 0) × (refuse 5 (allFinite v) (lateRefusal (g .d) (g .n) bs v) ≡ 0)
@@ -66,7 +67,11 @@ module _ (g : Geo) (bs : List Float) (id : ℕ) (v : List Float) (ix : Ix) (work
 
   pub accepted-norm : normNumber v ≡ 0
   unfolding lateRefusal
-  accepted-norm = eqb-true _ _ (norm-none (allFinite v) (eqb (normNumber v) 0) (projectionsFinite (g .d) bs v (g .n)) (split .1))
+  accepted-norm = eqb-true _ _ (late-passed (allFinite v) (eqb (normNumber v) 0) (projectionsFinite (g .d) bs v (g .n)) (split .1) .0)
+
+  pub accepted-finite : projectionsFinite (g .d) bs v (g .n) ≡ true
+  unfolding lateRefusal
+  accepted-finite = late-passed (allFinite v) (eqb (normNumber v) 0) (projectionsFinite (g .d) bs v (g .n)) (split .1) .1
 
 -- every component of a normalised vector is a binary32
 fit-map : (f : Float → Float) → ((x : Float) → T (fits binary32 (f x))) → (xs : List Float) → Fit (map f xs)

@@ -19,11 +19,11 @@ use Rattle.adding.proofs.Accepted.{accepted-shape, length-stored}
 use Rattle.adding.proofs.Faces.{faces-kept, faces-set}
 
 module _ (g : Geo) (bs : List Float) (id : ℕ) (v : List Float) (ix : Ix) (work : List Float) (e : addOf g bs id v ix work .answer ≡ 0) where
-  none : addRefusal g bs id v ix work ≡ 0
+  pub none : addRefusal g bs id v ix work ≡ 0
   unfolding addOf
   none = e
 
-  after : addOf g bs id v ix work .ix ≡ addedIx g bs id v ix
+  pub after : addOf g bs id v ix work .ix ≡ addedIx g bs id v ix
   unfolding addOf
   after = rw none
 

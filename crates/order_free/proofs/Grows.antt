@@ -14,11 +14,11 @@ use lib.ListN.{length, take, drop, length-replicate, length-drop, take-append-dr
 use lib.Seq.{sets, drop-drop}
 use Rattle.paper.specs.Choice.{_and_, pick}
 use Rattle.paper.specs.Geometry.{Geo, geoOk, faceWords, setWords, vectorBytes}
-use Rattle.index_memory.specs.Memory.{Ix, emptyIx, ownOkIx, faceBit, slotBytes, slotAt, storedAt, zeros, floatZeros}
+use Rattle.index_memory.specs.Memory.{Ix, emptyIx, ownOkIx, faceBit, slotBytes, slotAt, storedAt, floatZeros}
 use Rattle.index_memory.proofs.Lengths.{own-good, own-sized}
 use Rattle.index_memory.proofs.Places.{place, mark-low, face-bit-low}
 use Rattle.index_memory.proofs.Stores.{part-sets, part-same}
-use Rattle.bitmaps.specs.Words.{has}
+use Rattle.bitmaps.specs.Words.{has, empty}
 use Rattle.bitmaps.proofs.Digits.{Words}
 use Rattle.vector.specs.Norm.{normalized}
 use Rattle.quantization.specs.Stored.{lowerBytes}
@@ -32,15 +32,15 @@ use Rattle.order_free.proofs.Orders.{ix-eq, SameLen, same-refl, same-tr
 
 -- ---- lists of zeros, and lists by their parts
 
-take-zeros : (m n : ℕ) → m ≤ n → take m (zeros n) ≡ zeros m
+take-zeros : (m n : ℕ) → m ≤ n → take m (empty n) ≡ empty m
 take-zeros zero n h = refl
 take-zeros (suc m) zero h = let no : ⊥ = omega arith in absurd no
 take-zeros (suc m) (suc n) h = let h' : m ≤ n = omega arith in ap (λ (r : List ℕ). 0 ∷ r) (take-zeros m n h')
 
-drop-zeros : (k n : ℕ) → drop k (zeros n) ≡ zeros (n - k)
-drop-zeros zero n = ap zeros (let e : n ≡ n - 0 = omega arith in e)
-drop-zeros (suc k) zero = ap zeros (let e : 0 ≡ 0 - suc k = omega arith in e)
-drop-zeros (suc k) (suc n) = drop-zeros k n ∙ ap zeros (let e : n - k ≡ suc n - suc k = omega arith in e)
+drop-zeros : (k n : ℕ) → drop k (empty n) ≡ empty (n - k)
+drop-zeros zero n = ap empty (let e : n ≡ n - 0 = omega arith in e)
+drop-zeros (suc k) zero = ap empty (let e : 0 ≡ 0 - suc k = omega arith in e)
+drop-zeros (suc k) (suc n) = drop-zeros k n ∙ ap empty (let e : n - k ≡ suc n - suc k = omega arith in e)
 
 -- two lists of n parts of s elements each are equal if their parts are
 pub parts-ext : (n s : ℕ) (a b : List ℕ) → length a ≡ n * s → length b ≡ n * s → ((i : ℕ) → i < n → take s (drop (i * s) a) ≡ take s (drop (i * s) b)) → a ≡ b
@@ -170,7 +170,7 @@ module _ (g : Geo) (bs : List Float) where
 
   -- ---- from an empty index
 
-  stored-empty : (i : ℕ) → i < g .cap → storedAt (g .d) (g .mode) (emptyIx g .vecs) i ≡ zeros (slotBytes (g .d) (g .mode))
+  stored-empty : (i : ℕ) → i < g .cap → storedAt (g .d) (g .mode) (emptyIx g .vecs) i ≡ empty (slotBytes (g .d) (g .mode))
   unfolding emptyIx
   stored-empty i h =
       let le : slotBytes (g .d) (g .mode) ≤ vectorBytes (g .d) (g .cap) (g .mode) - slotAt (g .d) (g .mode) i = omega (arith, place i (g .cap) (slotBytes (g .d) (g .mode)) h) in

@@ -6,9 +6,9 @@ use mathlib.Core.Bool.{true}
 use lib.Ieee.{Float}
 use lib.ListN.{length, length-replicate}
 use Rattle.paper.specs.Geometry.{Geo, geoOk}
-use Rattle.index_memory.specs.Memory.{Ix, emptyIx, ownOkIx, ownRefusal}
+use Rattle.index_memory.specs.Memory.{Ix, emptyIx, ownOkIx, ownRefusal, Done, done, emptyOf}
 use Rattle.adding.specs.Adding.{Added, added, addOf}
-use Rattle.merging.specs.Merging.{Done, done, emptyOf, mergeOf}
+use Rattle.merging.specs.Merging.{mergeOf}
 use Rattle.order_free.specs.Order.{Addition, Call, whats, WorkLent, step, run, swap, Deal, one, two, built, AllAccepted, calls, filled, FillArgs}
 use Rattle.order_free.proofs.Orders.{run-is, puts, run-shuffle}
 use Rattle.order_free.proofs.Deals.{any-deal, puts-append}

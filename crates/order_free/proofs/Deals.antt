@@ -11,7 +11,7 @@ use borrow.Author.Tests.{eqb-true, eq-eqb, ne-eqb}
 use lib.Dec.{eqb}
 use lib.Ieee.{Float}
 use lib.ListN.{length, take, drop, length-drop}
-use lib.Seq.{sets, length-sets, length-take-le}
+use lib.Seq.{sets, length-take-le}
 use Rattle.paper.specs.Choice.{_and_, pick}
 use Rattle.paper.specs.Geometry.{Geo, geoOk, faceWords, setWords}
 use Rattle.index_memory.specs.Memory.{Ix, emptyIx, faceBit, slotBytes, floatZeros}
@@ -24,26 +24,17 @@ use Rattle.vector.specs.Norm.{normalized}
 use Rattle.quantization.specs.Stored.{lowerBytes}
 use Rattle.adding.specs.Adding.{faceSlot, withFaces, withVector, addedIx, Shaped}
 use Rattle.adding.proofs.Accepted.{length-stored}
+use Rattle.adding.proofs.Faces.{length-faces}
+use Rattle.merging.proofs.Merged.{length-copied}
 use Rattle.merging.specs.Merging.{copied, mergedIx, mergeRefusal, mergeOf}
 use Rattle.order_free.specs.Order.{Addition, Call, whats, WorkLent, run, Shuffle, Fresh, Distinct, Deal, one, two, dealt, built, AllAccepted}
 use Rattle.order_free.specs.Grown.{lastOr, taken, takenAs, markOf}
 use Rattle.bitmaps.proofs.Members.{has-empty}
 use Rattle.order_free.proofs.Words.{union-inserted, union-empty, has-put, share-none}
-use Rattle.order_free.proofs.Orders.{length-faces, ix-eq, SameLen, same-trans, same-sym, num, num-same, put, puts, put-same, puts-same, shape-good, run-is, distinct-shuffle, puts-shuffle}
+use Rattle.order_free.proofs.Orders.{ix-eq, SameLen, same-trans, same-sym, num, num-same, put, puts, put-same, puts-same, shape-good, run-is, distinct-shuffle, puts-shuffle}
 use Rattle.order_free.proofs.Grows.{grown-puts}
 
 -- ---- copied slots
-
-length-pick : (b : Bool) (x y : List ℕ) (n : ℕ) → length x ≡ n → length y ≡ n → length (pick b x y) ≡ n
-length-pick true x y n p q = p
-length-pick false x y n p q = q
-
-length-copied : (size k : ℕ) (ms from vs : List ℕ) → length (copied size k ms from vs) ≡ length vs
-unfolding copied
-length-copied size zero ms from vs = refl
-length-copied size (suc k) ms from vs =
-    length-pick (holds ms k) _ _ (length vs)
-    (length-sets (copied size k ms from vs) (k * size) (take size (drop (k * size) from)) ∙ length-copied size k ms from vs) (length-copied size k ms from vs)
 
 -- an index without marks copies nothing
 copied-none : (size k n : ℕ) (from vs : List ℕ) → copied size k (empty n) from vs ≡ vs

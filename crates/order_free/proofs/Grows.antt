@@ -16,19 +16,20 @@ use Rattle.paper.specs.Choice.{_and_, pick}
 use Rattle.paper.specs.Geometry.{Geo, geoOk, faceWords, setWords, vectorBytes}
 use Rattle.index_memory.specs.Memory.{Ix, emptyIx, ownOkIx, faceBit, slotBytes, slotAt, storedAt, floatZeros}
 use Rattle.index_memory.proofs.Lengths.{own-good, own-sized}
-use Rattle.index_memory.proofs.Places.{place, mark-low, face-bit-low}
+use Rattle.index_memory.proofs.Places.{place, mark-low}
 use Rattle.index_memory.proofs.Stores.{part-sets, part-same}
 use Rattle.bitmaps.specs.Words.{has, empty}
 use Rattle.bitmaps.proofs.Digits.{Words}
 use Rattle.vector.specs.Norm.{normalized}
 use Rattle.quantization.specs.Stored.{lowerBytes}
 use Rattle.adding.specs.Adding.{faceSlot, withFaces, withVector, addedIx, Shaped}
-use Rattle.adding.proofs.Accepted.{length-stored, face-slot-low}
+use Rattle.adding.proofs.Accepted.{length-stored}
+use Rattle.adding.proofs.Faces.{face-room}
 use Rattle.order_free.specs.Order.{Addition, Call, whats, WorkLent, run}
 use Rattle.order_free.specs.Grown.{lastOr, taken, takenAs, faceAmong, takenAt, Grown}
 use Rattle.bitmaps.proofs.Members.{has-empty, same-words, words-empty}
 use Rattle.order_free.proofs.Words.{has-put, words-inserted}
-use Rattle.order_free.proofs.Orders.{ix-eq, SameLen, same-refl, same-trans, num, num-same, put, puts, put-same, puts-same, shape-good, length-faces, run-is}
+use Rattle.order_free.proofs.Orders.{ix-eq, SameLen, same-refl, same-trans, num, num-same, put, puts, put-same, puts-same, shape-good, run-is}
 
 -- ---- lists of zeros, and lists by their parts
 
@@ -118,24 +119,21 @@ module _ (g : Geo) (bs : List Float) where
     abbrev with : ℕ → List ℕ
     with m = withFaces (g .d) (g .cap) (a .id) (faceSlot (g .d) bs (a .v)) m (ix .faces)
 
-    face-room : (b : ℕ) → b < g .n → faceBit (g .d) (g .cap) b (faceSlot (g .d) bs (a .v) b) (a .id) < length (with b) * 64
-    face-room b l =
-        subst (λ (k : ℕ). faceBit (g .d) (g .cap) b (faceSlot (g .d) bs (a .v) b) (a .id) < k * 64)
-        (sym (length-faces (g .d) (g .cap) (a .id) (faceSlot (g .d) bs (a .v)) b (ix .faces) ∙ s .faces))
-        (face-bit-low (g .d) (g .n) (g .cap) b (faceSlot (g .d) bs (a .v) b) (a .id) (s .facts .cap-even) l (face-slot-low (g .d) bs (a .v) b (s .vector) (s .facts .d-low)) (s .id-low))
+    room : (b : ℕ) → b < g .n → faceBit (g .d) (g .cap) b (faceSlot (g .d) bs (a .v) b) (a .id) < length (with b) * 64
+    room b l = face-room g bs (a .id) (a .v) (ix .faces) _ _ _ _ s b b l
 
     faces-has : (k m : ℕ) → m ≤ g .n → has (with m) k ≡ pick (faceAmong g bs k m a) 1 (has (ix .faces) k)
     unfolding withFaces faceAmong
     faces-has k zero h = refl
     faces-has k (suc b) h =
-        has-put (with b) (faceBit (g .d) (g .cap) b (faceSlot (g .d) bs (a .v) b) (a .id)) k (face-room b h)
+        has-put (with b) (faceBit (g .d) (g .cap) b (faceSlot (g .d) bs (a .v) b) (a .id)) k (room b h)
         ∙ ap (λ (x : ℕ). pick (eqb (faceBit (g .d) (g .cap) b (faceSlot (g .d) bs (a .v) b) (a .id)) k) 1 x) (faces-has k b (omega arith))
         ∙ pick-two (eqb (faceBit (g .d) (g .cap) b (faceSlot (g .d) bs (a .v) b) (a .id)) k) (faceAmong g bs k b a) (has (ix .faces) k)
 
     faces-words : (m : ℕ) → m ≤ g .n → Words (ix .faces) → Words (with m)
     unfolding withFaces
     faces-words zero h w = w
-    faces-words (suc b) h w = words-inserted (with b) _ (face-room b h) (faces-words b (omega arith) w)
+    faces-words (suc b) h w = words-inserted (with b) _ (room b h) (faces-words b (omega arith) w)
 
   face-law : (k : ℕ) (a : Addition) (ix : Ix) → ShapedFor a ix → has (addedIx g bs (a .id) (a .v) ix .faces) k ≡ pick (faceAmong g bs k (g .n) a) 1 (has (ix .faces) k)
   unfolding addedIx

@@ -17,17 +17,13 @@ use Rattle.vector.specs.Norm.{normalized}
 use Rattle.quantization.specs.Stored.{lowerBytes}
 use Rattle.adding.specs.Adding.{faceSlot, withFaces, withVector, addedIx, addRefusal, addOf, Shaped}
 use Rattle.adding.proofs.Accepted.{length-stored, accepted-shape}
+use Rattle.adding.proofs.Faces.{length-faces}
 use Rattle.order_free.specs.Order.{Addition, Call, whats, WorkLent, answer, step, run, Shuffle, none, keep, swap, then, Fresh, Distinct}
 use Rattle.order_free.proofs.Words.{inserted-comm, length-inserted}
 
 -- ---- face bits
 
 module _ (d cap id : ℕ) (slot : ℕ → ℕ) where
-  pub length-faces : (n : ℕ) (fs : List ℕ) → length (withFaces d cap id slot n fs) ≡ length fs
-  unfolding withFaces
-  length-faces zero fs = refl
-  length-faces (suc b) fs = length-inserted (withFaces d cap id slot b fs) _ ∙ length-faces b fs
-
   faces-put : (n : ℕ) (fs : List ℕ) (k : ℕ) → withFaces d cap id slot n (inserted fs k) ≡ inserted (withFaces d cap id slot n fs) k
   unfolding withFaces
   faces-put zero fs k = refl

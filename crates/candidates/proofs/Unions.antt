@@ -34,9 +34,15 @@ face-set-has fs d cap b slot id e s h =
     let w = setWords cap in
     let l : id / 64 < w = omega arith in
     let m : slot * w + id / 64 < 2 * d * w = digits-lt s l in
-    rw (face-bit-word d cap b slot id e, face-bit-digit d cap b slot id e, getD-take w (drop (slot * w) (facesAt fs d w b)) (id / 64) 0 l,
-    getD-drop (slot * w) (facesAt fs d w b) (id / 64) 0, getD-take (2 * d * w) (drop (b * (2 * d * w)) fs) (slot * w + id / 64) 0 m,
-    getD-drop (b * (2 * d * w)) fs (slot * w + id / 64) 0, word-of b (2 * d) slot w (id / 64))
+    rw (
+      face-bit-word d cap b slot id e,
+      face-bit-digit d cap b slot id e,
+      getD-take w (drop (slot * w) (facesAt fs d w b)) (id / 64) 0 l,
+      getD-drop (slot * w) (facesAt fs d w b) (id / 64) 0,
+      getD-take (2 * d * w) (drop (b * (2 * d * w)) fs) (slot * w + id / 64) 0 m,
+      getD-drop (b * (2 * d * w)) fs (slot * w + id / 64) 0,
+      word-of b (2 * d) slot w (id / 64),
+    )
 
 -- ---- the union of a basis
 

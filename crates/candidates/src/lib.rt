@@ -13,5 +13,4 @@ pub struct Gathered {
 // The laws of this crate, claimed: specs/Laws.antt says each of them.
 pub fn laws()
     ensures { λ _. ⌜ Laws ⌝ }
-{
-}
+{}

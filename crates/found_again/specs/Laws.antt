@@ -22,15 +22,12 @@ pub record Laws : Type 0 where
   -- No projection of the search is refused: 7 can't come of it.
   pub projects-again : (g : Geo) (bs : List Float) (id : ℕ) (v : List Float) (ix : Ix) (work : List Float) → addOf g bs id v ix work .answer ≡ 0
       → (spill : ℕ) → targetFinite (afterAdding g bs id v ix work spill) (g .n) ≡ true
-
   -- The id is in the union of every basis, ..
   pub in-every-union : (g : Geo) (bs : List Float) (id : ℕ) (v : List Float) (ix : Ix) (work : List Float) → addOf g bs id v ix work .answer ≡ 0
       → (spill b : ℕ) → b < g .n → has (unionAt (afterAdding g bs id v ix work spill) b) id ≡ 1
-
   -- .. so in every layer, the highest too, ..
   pub in-every-layer : (g : Geo) (bs : List Float) (id : ℕ) (v : List Float) (ix : Ix) (work : List Float) → addOf g bs id v ix work .answer ≡ 0
       → (spill j : ℕ) → j < g .n → has (layer (setWords (g .cap)) (layersOf (g .n) (afterAdding g bs id v ix work spill)) j) id ≡ 1
-
   -- .. and so in the layer that an accepted search chooses, for whatever k and search_k.
   pub in-chosen-layer : (g : Geo) (bs : List Float) (id : ℕ) (v : List Float) (ix : Ix) (work : List Float) → addOf g bs id v ix work .answer ≡ 0
       → (k sk spill : ℕ) (ms vs : List ℕ) (r : Nearest) (a : AcceptedSearch (g .n) (g .mode) k sk (afterAdding g bs id v ix work spill) ms vs r)

@@ -4,5 +4,4 @@ ghost use Rattle.found_again.specs.Laws.{Laws};
 // The laws of this crate, claimed: specs/Laws.antt says each of them.
 pub fn laws()
     ensures { λ _. ⌜ Laws ⌝ }
-{
-}
+{}

@@ -108,9 +108,10 @@ shape-work g lb lf lm lv lt lw ll ls e =
     let r3 = refuse-rest (basesOk (g .d) (g .n) lb) 2 _ not2 r2 in
     work-facts (g .d) (g .n) (g .cap) lt lw ll ls (refuse-ok (workOk (g .d) (g .n) (g .cap) lt lw ll ls) 2 0 not2 r3)
 
-pub find-args : (g : Geo) (k lb lf lm lv lt lw ll ls : ℕ) → searchShape g lb lf lm lv lt lw ll ls ≡ 0 → k ≤ 256 → FindArgs (g .n) (g .mode) k lb lf lm lv lt lw ll ls
+pub find-args : (g : Geo) (k lb lf lm lv lt lw ll ls s : ℕ) → s ≡ searchShape g lb lf lm lv lt lw ll ls → s ≡ 0 → k ≤ 256 → FindArgs (g .n) (g .mode) k lb lf lm lv lt lw ll ls
 unfolding searchShape
-find-args g k lb lf lm lv lt lw ll ls e kh =
+find-args g k lb lf lm lv lt lw ll ls s q z kh =
+    let e : searchShape g lb lf lm lv lt lw ll ls ≡ 0 = sym q ∙ z in
     let gt = refuse-ok (geoOk (g .d) (g .n) (g .cap) (g .mode)) 1 _ not1 e in
     let r1 = refuse-rest (geoOk (g .d) (g .n) (g .cap) (g .mode)) 1 _ not1 e in
     let ot = refuse-ok (ownOk (g .d) (g .n) (g .cap) (g .mode) lf lm lv) 2 _ not2 r1 in
@@ -142,18 +143,19 @@ module _ (g : Geo) (bs : List Float) (ix : Ix) (t : List Float) (k sk spill : �
   unfolding searchOf searchRefusal
   search-shape s r e h q = simp (← e, ne-eqb s 0 h, q)
 
-  pub search-four : (r : Nearest) → shape ≡ 0 → 256 < k → r ≡ refused 4 → searched r m ≡ searchOf g bs ix t k sk spill m
+  pub search-four : (s : ℕ) (r : Nearest) → s ≡ shape → s ≡ 0 → 256 < k → r ≡ refused 4 → searched r m ≡ searchOf g bs ix t k sk spill m
   unfolding searchOf searchRefusal
-  search-four r z h q = simp (eq-eqb shape 0 z, lt-leb k 256 h, q)
+  search-four s r e z h q = simp (← e, eq-eqb s 0 z, lt-leb k 256 h, q)
 
-  pub search-five : (r : Nearest) → shape ≡ 0 → k ≤ 256 → allFinite t ≡ false → r ≡ refused 5 → searched r m ≡ searchOf g bs ix t k sk spill m
+  pub search-five : (s : ℕ) (r : Nearest) → s ≡ shape → s ≡ 0 → k ≤ 256 → allFinite t ≡ false → r ≡ refused 5 → searched r m ≡ searchOf g bs ix t k sk spill m
   unfolding searchOf searchRefusal
-  search-five r z h f q = simp (eq-eqb shape 0 z, le-leb k 256 h, f, q)
+  search-five s r e z h f q = simp (← e, eq-eqb s 0 z, le-leb k 256 h, f, q)
 
-  pub search-done : (x : Searched) (picks : ℕ) → shape ≡ 0 → k ≤ 256 → allFinite t ≡ true → picks ≡ picksOf (g .d) spill
+  pub search-done : (s : ℕ) (x : Searched) (picks : ℕ) → s ≡ shape → s ≡ 0 → k ≤ 256 → allFinite t ≡ true → picks ≡ picksOf (g .d) spill
       → x ≡ searched (foundOf (g .n) (g .mode) k sk (queryOf bs (ix .faces) t (length (m .set)) picks) (ix .marks) (ix .vecs)) (cleared m) → x ≡ searchOf g bs ix t k sk spill m
   unfolding searchOf searchRefusal
-  search-done x picks z h f p q =
+  search-done s x picks e y h f p q =
+      let z : shape ≡ 0 = sym e ∙ y in
       let W = shape-work g (length bs) (length (ix .faces)) (length (ix .marks)) (length (ix .vecs)) (length t) (length (m .work)) (length (m .layers)) (length (m .set)) z in
       let q′ : x ≡ searched (foundOf (g .n) (g .mode) k sk (queryOf bs (ix .faces) t (setWords (g .cap)) (picksOf (g .d) spill)) (ix .marks) (ix .vecs)) (cleared m) =
       q ∙ ap (λ (v : ℕ). searched (foundOf (g .n) (g .mode) k sk (queryOf bs (ix .faces) t v picks) (ix .marks) (ix .vecs)) (cleared m)) (W .set)

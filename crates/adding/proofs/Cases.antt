@@ -50,10 +50,10 @@ pub was-not : (b : Bool) (r : ℕ) → r ≡ pick b 0 7 → (r ≡ 0 → ⊥) �
 was-not true r e z = absurd (z e)
 was-not false r e z = refl
 
-pub written-is : (g : Geo) (bs : List Float) (id : ℕ) (v : List Float) (ix : Ix) (slots : List ℕ)
-    → ((b : ℕ) → b < g .n → getD slots b 0 ≡ faceSlot (g .d) bs v b) → writtenIx g (λ b. getD slots b 0) id v ix ≡ addedIx g bs id v ix
+pub written-is : (g : Geo) (bs : List Float) (id : ℕ) (v : List Float) (ix ix' : Ix) (slots : List ℕ)
+    → ix' ≡ writtenIx g (λ b. getD slots b 0) id v ix → ((b : ℕ) → b < g .n → getD slots b 0 ≡ faceSlot (g .d) bs v b) → ix' ≡ addedIx g bs id v ix
 unfolding addedIx
-written-is g bs id v ix slots h = rw (with-same (g .d) (g .cap) id (λ b. getD slots b 0) (faceSlot (g .d) bs v) (g .n) (ix .faces) h)
+written-is g bs id v ix ix' slots e h = e ∙ rw (with-same (g .d) (g .cap) id (λ b. getD slots b 0) (faceSlot (g .d) bs v) (g .n) (ix .faces) h)
 
 -- ---- the call
 
@@ -95,13 +95,14 @@ module _ (g : Geo) (bs : List Float) (id : ℕ) (v : List Float) (ix : Ix) (work
       let hi : s ≤ 5 = omega arith in
       rw refusal-split (simp (← e, ne-eqb s 0 h, le-leb 1 s lo, le-leb s 5 hi))
 
-  pub five-refused : shape ≡ 0 → allFinite v ≡ false → added 5 ix work ≡ addOf g bs id v ix work
+  pub five-refused : (s : ℕ) → s ≡ shape → s ≡ 0 → allFinite v ≡ false → added 5 ix work ≡ addOf g bs id v ix work
   unfolding addOf workAfter
-  five-refused s f = rw refusal-split (simp (eq-eqb shape 0 s, f))
+  five-refused s e z f = rw refusal-split (simp (← e, eq-eqb s 0 z, f))
 
-  pub late-done : (r : ℕ) (ix' : Ix) (w : List Float) → shape ≡ 0 → allFinite v ≡ true → r ≡ lateRefusal (g .d) (g .n) bs v → ix' ≡ pick (eqb r 0) (addedIx g bs id v ix) ix
+  pub late-done : (r : ℕ) (ix' : Ix) (w : List Float) (s : ℕ) → s ≡ shape → s ≡ 0 → allFinite v ≡ true → r ≡ lateRefusal (g .d) (g .n) bs v → ix' ≡ pick (eqb r 0) (addedIx g bs id v ix) ix
       → w ≡ floatZeros (length work) → added r ix' w ≡ addOf g bs id v ix work
   unfolding addOf
-  late-done r ix' w s f e i q =
-      let t : addRefusal g bs id v ix work ≡ r = refusal-split g bs id v ix work ∙ rw (eq-eqb shape 0 s, f) (sym e) in
+  late-done r ix' w s d z f e i q =
+      let y : shape ≡ 0 = sym d ∙ z in
+      let t : addRefusal g bs id v ix work ≡ r = refusal-split g bs id v ix work ∙ rw (eq-eqb shape 0 y, f) (sym e) in
       rw (t, i, q, e, late-work) refl

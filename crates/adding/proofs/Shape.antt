@@ -56,6 +56,10 @@ module _ (g : Geo) (id lb lf lm lv lw lx : ℕ) (e : addShape g id lb lf lm lv l
         id-low = ltb-true _ _ id-true;
       }
 
+-- the same of the number that the tests gave
+pub shaped-by : (g : Geo) (id lb lf lm lv lw lx s : ℕ) → s ≡ addShape g id lb lf lm lv lw lx → s ≡ 0 → Shaped g id lb lf lm lv lw lx
+shaped-by g id lb lf lm lv lw lx s e z = shaped g id lb lf lm lv lw lx (sym e ∙ z)
+
 pick-le : (b : Bool) (x y k : ℕ) → x ≤ k → y ≤ k → pick b x y ≤ k
 pick-le true x y k p q = p
 pick-le false x y k p q = q

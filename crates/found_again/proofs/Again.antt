@@ -48,7 +48,7 @@ module _ (g : Geo) (bs : List Float) (id : ℕ) (v : List Float) (ix : Ix) (work
   pub projects-again : targetFinite q (g .n) ≡ true
   projects-again = subst (λ (d : ℕ). projectionsFinite d bs v (g .n) ≡ true) (sym (shape .vector)) (accepted-finite g bs id v ix work (none g bs id v ix work e))
 
-  faces-long : length (q .faces) ≡ g .n * (2 * g .d * setWords (g .cap))
+  faces-long : length (addOf g bs id v ix work .ix .faces) ≡ g .n * (2 * g .d * setWords (g .cap))
   unfolding addedIx
   faces-long =
       ap (λ (x : Ix). length (x .faces)) (after g bs id v ix work e)
@@ -61,12 +61,12 @@ module _ (g : Geo) (bs : List Float) (id : ℕ) (v : List Float) (ix : Ix) (work
       let fs = facesAt (q .faces) (g .d) w b in
       let p = projectionAt (g .d) bs v b in
       let s = shape in
+      let low : slotOf p < 2 * g .d = face-slot-low (g .d) bs v b (s .vector) (s .facts .d-low) in
+      let set : has (faceSet w fs (slotOf p)) id ≡ 1 = face-set-has (q .faces) (g .d) (g .cap) b (slotOf p) id (s .facts .cap-even) low (s .id-low) ∙ added-face g bs id v ix work e b h in
       let lp : length p ≡ g .d = length-projection (g .d) bs v b ∙ s .vector in
       let lf : length fs ≡ 2 * g .d * w = ap length (sym (part-is b (2 * g .d * w) (b * (2 * g .d * w)) (q .faces) refl)) ∙ part-long b (g .n) (2 * g .d * w) (b * (2 * g .d * w)) (q .faces) h refl faces-long in
       let lf′ : length fs ≡ 2 * length p * w = rw lp lf in
       let some : 1 ≤ length p = omega (arith, lp, s .facts .d-low) in
-      let low : slotOf p < 2 * g .d = face-slot-low (g .d) bs v b (s .vector) (s .facts .d-low) in
-      let set : has (faceSet w fs (slotOf p)) id ≡ 1 = face-set-has (q .faces) (g .d) (g .cap) b (slotOf p) id (s .facts .cap-even) low (s .id-low) ∙ added-face g bs id v ix work e b h in
       omega (arith, union-has (q .picks) w fs p id some lf′, first-in (q .picks) w fs p id (picks-some (g .d) spill (s .facts .d-low)), set)
 
   pub in-every-union : (b : ℕ) → b < g .n → has (unionAt q b) id ≡ 1

@@ -14,7 +14,7 @@ use Rattle.index_memory.specs.Memory.{Ix, floatZeros}
 use Rattle.vector.specs.Finite.{allFinite}
 use Rattle.vector.specs.Norm.{normNumber}
 use Rattle.basis.specs.Bases.{projectionsFinite}
-use Rattle.adding.specs.Adding.{faceSlot, addedIx, writtenIx, lengthsOk, shapeRefusal, lateRefusal, addRefusal, added, workAfter, addOf, SlotsAre}
+use Rattle.adding.specs.Adding.{faceSlot, addedIx, writtenIx, lengthsOk, addShape, lateRefusal, addRefusal, added, workAfter, addOf, SlotsAre}
 use Rattle.adding.proofs.Shape.{shape-high}
 use Rattle.adding.proofs.Turns.{with-same}
 
@@ -50,20 +50,20 @@ pub was-not : (b : Bool) (r : ℕ) → r ≡ pick b 0 7 → (r ≡ 0 → ⊥) �
 was-not true r e z = absurd (z e)
 was-not false r e z = refl
 
-pub written-is : (g : Geo) (bs : List Float) (id : ℕ) (v : List Float) (ix : Ix) (slots : List ℕ)
-    → ((b : ℕ) → b < g .n → getD slots b 0 ≡ faceSlot (g .d) bs v b) → writtenIx g (λ b. getD slots b 0) id v ix ≡ addedIx g bs id v ix
-unfolding writtenIx addedIx
-written-is g bs id v ix slots h = rw (with-same (g .d) (g .cap) id (λ b. getD slots b 0) (faceSlot (g .d) bs v) (g .n) (ix .faces) h)
+pub written-is : (g : Geo) (bs : List Float) (id : ℕ) (v : List Float) (ix ix' : Ix) (slots : List ℕ)
+    → ix' ≡ writtenIx g (λ b. getD slots b 0) id v ix → ((b : ℕ) → b < g .n → getD slots b 0 ≡ faceSlot (g .d) bs v b) → ix' ≡ addedIx g bs id v ix
+unfolding addedIx
+written-is g bs id v ix ix' slots e h = e ∙ rw (with-same (g .d) (g .cap) id (λ b. getD slots b 0) (faceSlot (g .d) bs v) (g .n) (ix .faces) h)
 
 -- ---- the call
 
 -- 1, 2, 3, then 5, then the late ones: the same order
 pub refusal-split : (g : Geo) (bs : List Float) (id : ℕ) (v : List Float) (ix : Ix) (work : List Float)
     → addRefusal g bs id v ix work
-    ≡ pick (eqb (shapeRefusal g id (length bs) (length (ix .faces)) (length (ix .marks)) (length (ix .vecs)) (length work) (length v)) 0)
+    ≡ pick (eqb (addShape g id (length bs) (length (ix .faces)) (length (ix .marks)) (length (ix .vecs)) (length work) (length v)) 0)
     (refuse 5 (allFinite v) (lateRefusal (g .d) (g .n) bs v))
-    (shapeRefusal g id (length bs) (length (ix .faces)) (length (ix .marks)) (length (ix .vecs)) (length work) (length v))
-unfolding addRefusal shapeRefusal lateRefusal
+    (addShape g id (length bs) (length (ix .faces)) (length (ix .marks)) (length (ix .vecs)) (length work) (length v))
+unfolding addRefusal addShape lateRefusal
 refusal-split g bs id v ix work =
     go (geoOk (g .d) (g .n) (g .cap) (g .mode)) (lengthsOk g (length bs) (length (ix .faces)) (length (ix .marks)) (length (ix .vecs)) (length work) (length v)) (ltb id (g .cap)) _
   where
@@ -85,7 +85,7 @@ late-work d n bs v w = late-cases (eqb (normNumber v) 0) (projectionsFinite d bs
 
 module _ (g : Geo) (bs : List Float) (id : ℕ) (v : List Float) (ix : Ix) (work : List Float) where
   abbrev shape : ℕ
-  shape = shapeRefusal g id (length bs) (length (ix .faces)) (length (ix .marks)) (length (ix .vecs)) (length work) (length v)
+  shape = addShape g id (length bs) (length (ix .faces)) (length (ix .marks)) (length (ix .vecs)) (length work) (length v)
 
   pub shape-refused : (s : ℕ) → s ≡ shape → (s ≡ 0 → ⊥) → added s ix work ≡ addOf g bs id v ix work
   unfolding addOf workAfter
@@ -95,13 +95,14 @@ module _ (g : Geo) (bs : List Float) (id : ℕ) (v : List Float) (ix : Ix) (work
       let hi : s ≤ 5 = omega arith in
       rw refusal-split (simp (← e, ne-eqb s 0 h, le-leb 1 s lo, le-leb s 5 hi))
 
-  pub five-refused : shape ≡ 0 → allFinite v ≡ false → added 5 ix work ≡ addOf g bs id v ix work
+  pub five-refused : (s : ℕ) → s ≡ shape → s ≡ 0 → allFinite v ≡ false → added 5 ix work ≡ addOf g bs id v ix work
   unfolding addOf workAfter
-  five-refused s f = rw refusal-split (simp (eq-eqb shape 0 s, f))
+  five-refused s e z f = rw refusal-split (simp (← e, eq-eqb s 0 z, f))
 
-  pub late-done : (r : ℕ) (ix' : Ix) (w : List Float) → shape ≡ 0 → allFinite v ≡ true → r ≡ lateRefusal (g .d) (g .n) bs v → ix' ≡ pick (eqb r 0) (addedIx g bs id v ix) ix
+  pub late-done : (r : ℕ) (ix' : Ix) (w : List Float) (s : ℕ) → s ≡ shape → s ≡ 0 → allFinite v ≡ true → r ≡ lateRefusal (g .d) (g .n) bs v → ix' ≡ pick (eqb r 0) (addedIx g bs id v ix) ix
       → w ≡ floatZeros (length work) → added r ix' w ≡ addOf g bs id v ix work
   unfolding addOf
-  late-done r ix' w s f e i q =
-      let t : addRefusal g bs id v ix work ≡ r = refusal-split g bs id v ix work ∙ rw (eq-eqb shape 0 s, f) (sym e) in
+  late-done r ix' w s d z f e i q =
+      let y : shape ≡ 0 = sym d ∙ z in
+      let t : addRefusal g bs id v ix work ≡ r = refusal-split g bs id v ix work ∙ rw (eq-eqb shape 0 y, f) (sym e) in
       rw (t, i, q, e, late-work) refl

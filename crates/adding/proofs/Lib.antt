@@ -1,4 +1,6 @@
 pub mod Shape
 pub mod Turns
 pub mod Cases
-pub mod Laws
+pub mod Accepted
+pub mod Faces
+pub mod Kept

@@ -35,10 +35,14 @@ withFaces d cap id slot (suc b) fs = inserted (withFaces d cap id slot b fs) (fa
 unfoldable pub withVector : ℕ → ℕ → ℕ → List Float → List ℕ → List ℕ
 withVector d mode id v vs = sets vs (slotAt d mode id) (lowerBytes mode (normalized v))
 
--- face bits, mark and stored vector: what was there of other ids, and older face bits of this one, stay
+-- face bits, for given slots, mark and stored vector: what was there of other ids, and older face bits of this one, stay
+abbrev pub writtenIx : Geo → (ℕ → ℕ) → ℕ → List Float → Ix → Ix
+writtenIx g slot id v ix =
+    ixOf (withFaces (g .d) (g .cap) id slot (g .n) (ix .faces)) (inserted (ix .marks) id) (withVector (g .d) (g .mode) id v (ix .vecs))
+
+-- an addition writes them for the vector's own slots
 unfoldable pub addedIx : Geo → List Float → ℕ → List Float → Ix → Ix
-addedIx g bs id v ix =
-    ixOf (withFaces (g .d) (g .cap) id (faceSlot (g .d) bs v) (g .n) (ix .faces)) (inserted (ix .marks) id) (withVector (g .d) (g .mode) id v (ix .vecs))
+addedIx g bs id v ix = writtenIx g (faceSlot (g .d) bs v) id v ix
 
 -- ---- refusals
 
@@ -83,8 +87,8 @@ addOf g bs id v ix work =
 -- ---- what the private functions ask and give
 
 -- the first three refusals, and the two that are found while the work memory is in use
-unfoldable pub shapeRefusal : Geo → ℕ → ℕ → ℕ → ℕ → ℕ → ℕ → ℕ → ℕ
-shapeRefusal g id lb lf lm lv lw lx =
+unfoldable pub addShape : Geo → ℕ → ℕ → ℕ → ℕ → ℕ → ℕ → ℕ → ℕ
+addShape g id lb lf lm lv lw lx =
     refuse 1 (geoOk (g .d) (g .n) (g .cap) (g .mode)) (refuse 2 (lengthsOk g lb lf lm lv lw lx) (refuse 3 (ltb id (g .cap)) 0))
 
 unfoldable pub lateRefusal : ℕ → ℕ → List Float → List Float → ℕ
@@ -141,8 +145,3 @@ pub record WriteArgs (d n cap mode id lf lm lv lw lx : ℕ) (slots : List ℕ) :
   pub vector : lx ≡ d
   pub id-low : id < cap
   pub low : (b : ℕ) → b < n → getD slots b 0 < 2 * d
-
--- an index with the id in the face sets of the given slots
-unfoldable pub writtenIx : Geo → (ℕ → ℕ) → ℕ → List Float → Ix → Ix
-writtenIx g slot id v ix =
-    ixOf (withFaces (g .d) (g .cap) id slot (g .n) (ix .faces)) (inserted (ix .marks) id) (withVector (g .d) (g .mode) id v (ix .vecs))

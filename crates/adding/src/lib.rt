@@ -9,7 +9,8 @@ ghost use Rattle.paper.specs.Geometry.{geo, compSize};
 ghost use Rattle.index_memory.specs.Memory.{ixOf};
 ghost use Rattle.vector.specs.Norm.{normNumber, normalized};
 ghost use Rattle.quantization.specs.Stored.{lowerBytes};
-ghost use Rattle.adding.specs.Adding.{lentOk, shapeRefusal, lateRefusal, withFaces, withVector, writtenIx, addedIx, added, addOf, SlotArgs, SlotsAre, FaceArgs, VecArgs, WriteArgs, Shaped};
+ghost use Rattle.adding.specs.Adding.{lentOk, addShape, lateRefusal, withFaces, withVector, writtenIx, addedIx, added, addOf, SlotArgs, SlotsAre, FaceArgs, VecArgs, WriteArgs, Shaped};
+ghost use Rattle.adding.specs.Laws.{Laws};
 
 // Refusal 7 or 0, and for 0 the slot of a vector's face in each basis.
 struct Slots {
@@ -47,7 +48,7 @@ fn shape_refusal(
     work: usize,
     v: usize,
 ) -> u32
-    ensures { λ r. ⌜ r ≡ shapeRefusal (geo d n cap mode) id bases faces marks vectors work v ⌝ }
+    ensures { λ r. ⌜ r ≡ addShape (geo d n cap mode) id bases faces marks vectors work v ⌝ }
 {
     let own = index_memory::own_refusal(d, n, cap, mode, faces, marks, vectors);
     if own != 0 {
@@ -244,3 +245,8 @@ pub fn add_vector(
     index_memory::inner::clear_floats(work);
     r
 }
+
+// The laws of this crate, claimed: specs/Laws.antt says each of them.
+pub fn laws()
+    ensures { λ _. ⌜ Laws ⌝ }
+{}

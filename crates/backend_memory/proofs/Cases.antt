@@ -1,7 +1,7 @@
 -- The cases of a scan, as the call meets them. Assumes nothing.
 use Prim.Native.Nat.{ℕ, _*_}
 use native.Mathlib.Omega.{arith}
-use mathlib.Core.Path.{_≡_, refl, sym, ap, _∙_}
+use mathlib.Core.Path.{_≡_, refl, sym, ap, _∙_, subst}
 use mathlib.Core.Bool.{Bool, true, false}
 use mathlib.Core.List.{List}
 use lib.Dec.{leb, eqb}
@@ -15,10 +15,16 @@ use Rattle.index_memory.specs.Memory.{storeOk, slotBytes}
 use Rattle.index_memory.proofs.Lengths.{store-sized}
 use Rattle.paper.specs.Choice.{pick}
 use Rattle.result.specs.declared.Fed.{Fed}
+use Rattle.result.specs.Ranked.{larger, inOrder}
+use Rattle.result.specs.Sets.{entriesOf}
 use Rattle.result.proofs.Keeps.{Sound, sound-empty}
-use Rattle.backend_memory.specs.Ranking.{refused, nearestOf, RankArgs}
+use Rattle.bitmaps.specs.Words.{size}
+use Rattle.bitmaps.proofs.Digits.{Words}
+use Rattle.backend_memory.specs.Ranking.{refused, similarityOf, rankOf, nearestOf, RankArgs}
+use Rattle.backend_memory.specs.Listed.{Each, TrueEntry}
 use Rattle.backend_memory.specs.Scan.{scanRefusal, scanOf}
-use Rattle.backend_memory.proofs.Counts.{nearest-sound}
+use Rattle.backend_memory.proofs.Counts.{nearest-sound, scan-ranks, rank-checked, rank-order}
+use Rattle.backend_memory.proofs.Listed.{rank-listed}
 
 not1 : _≡_ {A = ℕ} 1 0 → ⊥
 not1 e = omega arith
@@ -84,3 +90,20 @@ scan-accepted g ms vs t k e = by (scanRefusal g (length ms) (length vs) t k) (eq
     by : (num : ℕ) (b : Bool) → eqb num 0 ≡ b → pick b (nearestOf (g .mode) k ms vs t) (refused num) .refusal ≡ 0 → pick b (nearestOf (g .mode) k ms vs t) (refused num) ≡ nearestOf (g .mode) k ms vs t
     by num true h e = refl
     by num false h e = absurd (eqb-false num 0 h e)
+
+-- so what it lists and counts is the ranking's
+module _ (g : Geo) (ms vs : List ℕ) (t : List Float) (k : ℕ) (e : scanOf g ms vs t k .refusal ≡ 0) where
+  same : scanOf g ms vs t k ≡ rankOf (g .mode) k ms ms vs t
+  same = scan-accepted g ms vs t k e ∙ sym (scan-ranks (g .mode) k ms vs t)
+
+  good : rankOf (g .mode) k ms ms vs t .refusal ≡ 0
+  good = ap (λ (r : Fed). r .refusal) (sym same) ∙ e
+
+  pub scan-checked : Words ms → scanOf g ms vs t k .set .checked ≡ size ms
+  scan-checked w = ap (λ (r : Fed). r .set .checked) same ∙ rank-checked (g .mode) k ms ms vs t w good
+
+  pub scan-listed : Each (TrueEntry ms ms (similarityOf (g .mode) vs t)) (entriesOf (scanOf g ms vs t k .set))
+  scan-listed = subst (λ (r : Fed). Each (TrueEntry ms ms (similarityOf (g .mode) vs t)) (entriesOf (r .set))) (sym same) (rank-listed (g .mode) k ms ms vs t good)
+
+  pub scan-order : inOrder larger (entriesOf (scanOf g ms vs t k .set)) ≡ true
+  scan-order = ap (λ (r : Fed). inOrder larger (entriesOf (r .set))) same ∙ rank-order (g .mode) k ms ms vs t good

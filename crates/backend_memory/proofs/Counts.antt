@@ -89,13 +89,6 @@ pub scan-ranks : (mode k : ℕ) (ms vs : List ℕ) (t : List Float) → rankOf m
 unfolding rankOf nearestOf
 scan-ranks mode k ms vs t = all-marked ms (similarityOf mode vs t) (length ms * 64) 0 (emptySet k)
 
--- checked of a scan is the number of marks
-pub scan-checked : (mode k : ℕ) (ms vs : List ℕ) (t : List Float) → Words ms
-    → nearestOf mode k ms vs t .refusal ≡ 0 → nearestOf mode k ms vs t .set .checked ≡ size ms
-scan-checked mode k ms vs t w e =
-    let s = scan-ranks mode k ms vs t in
-    ap (λ (r : Fed). r .set .checked) (sym s) ∙ rank-checked mode k ms ms vs t w (ap (λ (r : Fed). r .refusal) s ∙ e)
-
 -- ---- whatever a ranking answers, its set is well formed
 
 none-sound : Sound (emptySet 0)

@@ -15,13 +15,9 @@ use Rattle.result.specs.Sets.{entriesOf, emptySet, fedSet}
 use Rattle.result.specs.declared.ResultSet.{ResultSet}
 use Rattle.result.specs.declared.Fed.{Fed}
 use Rattle.result.proofs.Keeps.{entries-fed, entries-none}
-use Rattle.backend_memory.specs.Ranking.{scored, ranking, rankOf, nearestOf, similarityOf}
-use Rattle.backend_memory.proofs.Counts.{first-of, scan-ranks}
-
--- every element has the property
-pub data Each {A : Type 0} (P : A → Type 0) : List A → Type 0 where
-  none : Each P []
-  more : {a : A} {l : List A} → P a → Each P l → Each P (a ∷ l)
+use Rattle.backend_memory.specs.Ranking.{scored, ranking, rankOf, similarityOf}
+use Rattle.backend_memory.specs.Listed.{Each, none, more, TrueEntry}
+use Rattle.backend_memory.proofs.Counts.{first-of}
 
 pub each-at : {A : Type 0} (P : A → Type 0) (l : List A) (d : A) (i : ℕ) → Each P l → i < length l → P (getD l i d)
 each-at P [] d i none h = absurd (omega arith)
@@ -55,12 +51,6 @@ module _ (P : Entry → Type 0) (e : Entry) (p : P e) where
 
 -- ---- an accepted ranking
 
--- an entry of a ranked set's list, by the set, the marks and the score of each id
-pub record Listed (ids ms : List ℕ) (f : ℕ → Float) (e : Entry) : Type 0 where
-  pub inside : has ids (e .key) ≡ 1
-  pub marked : holds ms (e .key) ≡ true
-  pub score : e .sim ≡ f (e .key)
-
 -- the ids of a set are in it
 ids-inside : (m from : ℕ) (s : List ℕ) → Each (λ (i : ℕ). has s i ≡ 1) (idsIn m from s)
 unfolding idsIn
@@ -71,29 +61,21 @@ ids-inside (suc m) from s = by (has s from) refl (ids-inside m (suc from) s)
     by zero h q = q
     by (suc d) h q = let one : has s from ≡ 1 = omega arith in more one q
 
-ranking-listed : (ids ms : List ℕ) (f : ℕ → Float) (s : ResultSet) (is : List ℕ) → Each (λ (i : ℕ). has ids i ≡ 1) is → Each (Listed ids ms f) (entriesOf s)
-    → ranking ms f s is .refusal ≡ 0 → Each (Listed ids ms f) (entriesOf (ranking ms f s is .set))
+ranking-listed : (ids ms : List ℕ) (f : ℕ → Float) (s : ResultSet) (is : List ℕ) → Each (λ (i : ℕ). has ids i ≡ 1) is → Each (TrueEntry ids ms f) (entriesOf s)
+    → ranking ms f s is .refusal ≡ 0 → Each (TrueEntry ids ms f) (entriesOf (ranking ms f s is .set))
 unfolding ranking
 ranking-listed ids ms f s [] none q e = q
 ranking-listed ids ms f s (i ∷ is) (more h hs) q e =
     let a = first-of ms f s i is e in
-    let new : Listed ids ms f (scored f i) = record { inside = h; marked = a .marked; score = refl } in
+    let new : TrueEntry ids ms f (scored f i) = record { inside = h; marked = a .marked; score = refl } in
     let e2 : ranking ms f (fedSet s (scored f i)) is .refusal ≡ 0 = ap (λ (r : Fed). r .refusal) (sym (a .rest)) ∙ e in
-    subst (λ (r : Fed). Each (Listed ids ms f) (entriesOf (r .set))) (sym (a .rest))
-    (ranking-listed ids ms f (fedSet s (scored f i)) is hs (each-fed-set (Listed ids ms f) (scored f i) new s q) e2)
+    subst (λ (r : Fed). Each (TrueEntry ids ms f) (entriesOf (r .set))) (sym (a .rest))
+    (ranking-listed ids ms f (fedSet s (scored f i)) is hs (each-fed-set (TrueEntry ids ms f) (scored f i) new s q) e2)
 
 pub rank-listed : (mode k : ℕ) (ids ms vs : List ℕ) (t : List Float) → rankOf mode k ids ms vs t .refusal ≡ 0
-    → Each (Listed ids ms (similarityOf mode vs t)) (entriesOf (rankOf mode k ids ms vs t .set))
+    → Each (TrueEntry ids ms (similarityOf mode vs t)) (entriesOf (rankOf mode k ids ms vs t .set))
 unfolding rankOf
 rank-listed mode k ids ms vs t e =
     let f = similarityOf mode vs t in
-    let start : Each (Listed ids ms f) (entriesOf (emptySet k)) = rw (entries-none k) none in
+    let start : Each (TrueEntry ids ms f) (entriesOf (emptySet k)) = rw (entries-none k) none in
     ranking-listed ids ms f (emptySet k) (idsOf ids) (ids-inside (length ids * 64) 0 ids) start e
-
--- the same for a scan: each listed id is present
-pub scan-listed : (mode k : ℕ) (ms vs : List ℕ) (t : List Float) → nearestOf mode k ms vs t .refusal ≡ 0
-    → Each (Listed ms ms (similarityOf mode vs t)) (entriesOf (nearestOf mode k ms vs t .set))
-scan-listed mode k ms vs t e =
-    let s = scan-ranks mode k ms vs t in
-    subst (λ (r : Fed). Each (Listed ms ms (similarityOf mode vs t)) (entriesOf (r .set))) s
-    (rank-listed mode k ms ms vs t (ap (λ (r : Fed). r .refusal) s ∙ e))

@@ -3,6 +3,7 @@
 ghost use mathlib.Core.Path.{_≡_};
 ghost use Rattle.paper.specs.Geometry.{geo};
 ghost use Rattle.backend_memory.specs.Scan.{scanRefusal, scanOf};
+ghost use Rattle.backend_memory.specs.Laws.{Laws};
 use result::Fed;
 
 pub mod inner;
@@ -58,3 +59,8 @@ pub fn full_table_scan(
     }
     inner::find_nearest(marks, vectors, target, mode, k)
 }
+
+// The laws of this crate, claimed: specs/Laws.antt says each of them.
+pub fn laws()
+    ensures { λ _. ⌜ Laws ⌝ }
+{}

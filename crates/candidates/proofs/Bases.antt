@@ -17,7 +17,7 @@ use Rattle.vector.specs.Finite.{allFinite}
 use Rattle.basis.specs.Project.{projected}
 use Rattle.basis.specs.Bases.{basisAt, projectionAt}
 use Rattle.faces.specs.Slots.{slots}
-use Rattle.candidates.specs.Gathering.{joined, unionOf, facesAt, Lent, targetOn, targetFinite, unionAt, unionsFrom, layersOf, droppedOf, BasisIs, GatherIs}
+use Rattle.candidates.specs.Gathering.{joined, unionOf, facesAt, Query, targetOn, targetFinite, unionAt, unionsFrom, layersOf, droppedOf, BasisIs, GatherIs}
 use Rattle.candidates.specs.declared.Gathered.{Gathered}
 
 -- a product, where the factors' names change
@@ -54,7 +54,7 @@ module _ (n w picks : ℕ) (bs : List Float) (fs : List ℕ) (t : List Float) (l
 
 -- ---- the answer for basis b, in the definitions' terms
 
-module _ (q : Lent) (n b p f w : ℕ) (ls ls′ : List ℕ) (r : Gathered)
+module _ (q : Query) (n b p f w : ℕ) (ls ls′ : List ℕ) (r : Gathered)
     (ep : p ≡ b * (length (q .target) * length (q .target))) (ef : f ≡ b * (2 * length (q .target) * q .w)) (ew : w ≡ q .w)
     (o : BasisIs n w (q .picks) (take (p + length (q .target) * length (q .target) - p) (drop p (q .bases))) (take (f + 2 * length (q .target) * q .w - f) (drop f (q .faces))) (q .target) ls r ls′) where
   one : BasisIs n (q .w) (q .picks) (basisAt (q .bases) (length (q .target)) b) (facesAt (q .faces) (length (q .target)) (q .w) b) (q .target) ls r ls′
@@ -74,7 +74,7 @@ module _ (q : Lent) (n b p f w : ℕ) (ls ls′ : List ℕ) (r : Gathered)
 
 -- ---- what is left
 
-module _ (q : Lent) (n b : ℕ) (h : b < n) where
+module _ (q : Query) (n b : ℕ) (h : b < n) where
   more : n - b ≡ suc (n - (b + 1))
   more = omega arith
 
@@ -90,7 +90,7 @@ module _ (q : Lent) (n b : ℕ) (h : b < n) where
   unfolding droppedAll
   dropped-more ls ls′ e = rw (unions-more, e)
 
-module _ (q : Lent) (n : ℕ) where
+module _ (q : Query) (n : ℕ) where
   pub gather-stopped : (ls : List ℕ) → targetFinite q n ≡ false → GatherIs n q (record { refusal = 7; dropped = 0 }) ls
   gather-stopped ls e =
       record { answer = rw e; layers = λ (z : _≡_ {A = ℕ} 7 0). absurd (omega arith); dropped = λ (z : _≡_ {A = ℕ} 7 0). absurd (omega arith) }

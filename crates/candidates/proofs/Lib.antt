@@ -1,4 +1,4 @@
 pub mod Spills
 pub mod Bases
-pub mod Laws
+pub mod Unions
 pub mod Words

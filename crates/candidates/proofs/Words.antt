@@ -9,7 +9,7 @@ use Rattle.bitmaps.proofs.Digits.{Words}
 use Rattle.bitmaps.proofs.Members.{words-empty}
 use Rattle.counting_bitmap.specs.Layers.{empty, layer, merged, mergedAll}
 use Rattle.faces.specs.Slots.{slots}
-use Rattle.candidates.specs.Gathering.{faceSet, facesAt, joined, unionOf, Lent, targetOn, unionAt, unionsFrom, layersOf}
+use Rattle.candidates.specs.Gathering.{faceSet, facesAt, joined, unionOf, Query, targetOn, unionAt, unionsFrom, layersOf}
 
 words-none : Words []
 words-none i = omega arith
@@ -56,7 +56,7 @@ words-merged (suc n) w ls c h k =
     words-append (union (take w ls) c) (merged n w (drop w ls) (shared (take w ls) c)) (words-union (take w ls) c t k)
     (words-merged n w (drop w ls) (shared (take w ls) c) (words-drop w ls h) (words-shared (take w ls) c t k))
 
-words-at : (q : Lent) (b : ℕ) → Words (q .faces) → Words (unionAt q b)
+words-at : (q : Query) (b : ℕ) → Words (q .faces) → Words (unionAt q b)
 unfolding unionAt unionOf
 words-at q b h =
     let d = length (q .target) in
@@ -64,13 +64,13 @@ words-at q b h =
     words-joined (q .w) fs (empty (q .w)) (slots (q .picks) (targetOn q b))
     (words-take (2 * d * q .w) (drop (b * (2 * d * q .w)) (q .faces)) (words-drop (b * (2 * d * q .w)) (q .faces) h)) (words-empty (q .w))
 
-words-all : (n : ℕ) (q : Lent) (m b : ℕ) (ls : List ℕ) → Words (q .faces) → Words ls → Words (mergedAll n (q .w) ls (unionsFrom q m b))
+words-all : (n : ℕ) (q : Query) (m b : ℕ) (ls : List ℕ) → Words (q .faces) → Words ls → Words (mergedAll n (q .w) ls (unionsFrom q m b))
 unfolding mergedAll unionsFrom
 words-all n q zero b ls h k = k
 words-all n q (suc m) b ls h k = words-all n q m (suc b) (merged n (q .w) ls (unionAt q b)) h (words-merged n (q .w) ls (unionAt q b) k (words-at q b h))
 
 -- the layers of a search
-pub layer-words : (n : ℕ) (q : Lent) (j : ℕ) → Words (q .faces) → Words (layer (q .w) (layersOf n q) j)
+pub layer-words : (n : ℕ) (q : Query) (j : ℕ) → Words (q .faces) → Words (layer (q .w) (layersOf n q) j)
 unfolding layersOf
 layer-words n q j h =
     words-take (q .w) (drop (j * q .w) (layersOf n q)) (words-drop (j * q .w) (layersOf n q) (words-all n q n 0 (empty (n * q .w)) h (words-empty (n * q .w))))

@@ -2,7 +2,7 @@
 ghost use mathlib.Core.Path.{_≡_};
 ghost use lib.ListN.{length};
 ghost use Rattle.faces.specs.Slots.{slots};
-ghost use Rattle.candidates.specs.Gathering.{joined, lent, SpillArgs, BasisArgs, BasisIs, GatherArgs, GatherIs};
+ghost use Rattle.candidates.specs.Gathering.{joined, queryOf, SpillArgs, BasisArgs, BasisIs, GatherArgs, GatherIs};
 use super::Gathered;
 
 // Joins the face sets of `picks` picks of the projection to the set. Each pick leaves +0.0 in the picked entry's place.
@@ -65,7 +65,7 @@ pub fn gather(
     picks: usize,
 ) -> Gathered
     requires { ⌜ GatherArgs n (length (now bases)) (length (now faces)) (length (now target)) (length (now work)) (length (now layers)) (length (now set)) ⌝ }
-    ensures { λ r. ⌜ GatherIs n (lent (now (bases .entry)) (now (faces .entry)) (now (target .entry)) (length (now (set .entry))) picks) r (now (layers .exit)) ⌝ }
+    ensures { λ r. ⌜ GatherIs n (queryOf (now (bases .entry)) (now (faces .entry)) (now (target .entry)) (length (now (set .entry))) picks) r (now (layers .exit)) ⌝ }
 {
     let square = target.len() * target.len();
     let block = 2 * target.len() * set.len();

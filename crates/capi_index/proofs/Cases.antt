@@ -21,9 +21,9 @@ use Rattle.backend_memory.specs.Scan.{scanOf}
 use Rattle.backend_memory.proofs.Counts.{rank-fed, scan-ranks}
 use Rattle.backend_memory.proofs.Cases.{scan-sound, scan-accepted}
 use Rattle.candidates.specs.Gathering.{layersOf}
-use Rattle.vector_store.specs.Search.{Work, Searched, searchOf}
+use Rattle.vector_store.specs.Search.{Work, Searched, searchedBy, searchOf}
 use Rattle.vector_store.specs.declared.Nearest.{Nearest}
-use Rattle.vector_store.proofs.Laws.{searchedBy, search-accepted, search-sound}
+use Rattle.vector_store.proofs.Answers.{search-accepted, search-sound}
 use Rattle.capi_vectors.specs.Single.{laidOver}
 use Rattle.capi_sets.specs.Lists.{Outs, outs, roomIn, Listed, listed, intoFed, Fits}
 use Rattle.capi_index.specs.Searches.{intoNearest, scanInto, found, searchInto}

@@ -2,16 +2,16 @@
 // answer into, and is otherwise the public function that its comment names; none asks anything of its caller but that what is lent is there.
 ghost use mathlib.Core.Path.{_≡_};
 ghost use Rattle.paper.specs.Geometry.{geo};
-ghost use Rattle.index_memory.specs.Memory.{ixOf};
+ghost use Rattle.index_memory.specs.Memory.{ixOf, done, emptyOf};
 ghost use Rattle.adding.specs.Adding.{added, addOf};
-ghost use Rattle.merging.specs.Merging.{done, emptyOf, mergeOf};
+ghost use Rattle.merging.specs.Merging.{mergeOf};
 ghost use Rattle.vector_store.specs.Search.{works};
 ghost use Rattle.capi_sets.specs.Lists.{outs, listed};
 ghost use Rattle.capi_index.specs.Searches.{scanInto, found, searchInto};
 
 mod inner;
 
-// Makes the index empty (merging::new_vector_store). Refuses 1, then 2, and changes nothing then.
+// Makes the index empty (index_memory::new_vector_store). Refuses 1, then 2, and changes nothing then.
 #[no_mangle]
 pub extern "C" fn bbq_new(
     faces: &mut [u64],
@@ -24,7 +24,7 @@ pub extern "C" fn bbq_new(
 ) -> u32
     ensures { λ r. ⌜ done r (ixOf (now (faces .exit)) (now (marks .exit)) (now (vectors .exit))) ≡ emptyOf (geo d n cap mode) (ixOf (now (faces .entry)) (now (marks .entry)) (now (vectors .entry))) ⌝ }
 {
-    merging::new_vector_store(faces, marks, vectors, d, n, cap, mode)
+    index_memory::new_vector_store(faces, marks, vectors, d, n, cap, mode)
 }
 
 // Puts a vector into the index under an id (adding::add_vector). Refuses 1, 2, 3, 5, 6, 7. No refusal changes the index, and 1 to 5 change nothing at

@@ -1,16 +1,17 @@
 -- What the tests of lengths give. Assumes nothing.
 use Prim.Native.Nat.{ℕ}
-use mathlib.Core.Path.{_≡_, refl}
+use mathlib.Core.Path.{_≡_, refl, sym, _∙_}
 use mathlib.Core.Bool.{Bool, true, false}
 use native.Mathlib.Omega.{arith}
-use borrow.Author.Tests.{eqb-true, eq-eqb}
+use borrow.Author.Tests.{eqb-true, eq-eqb, ne-eqb}
 use lib.Dec.{eqb}
-use lib.ListN.{length-replicate}
+use lib.ListN.{length, length-replicate}
 use Rattle.paper.specs.Choice.{_and_, refuse}
 use Rattle.paper.specs.Geometry.{Geo, geoOk, setWords, basesLen, faceWords, vectorBytes}
+use Rattle.bitmaps.specs.Words.{empty}
 use Rattle.paper.proofs.Choice.{and-l, and-r}
 use Rattle.paper.proofs.Geometry.{geo-facts}
-use Rattle.index_memory.specs.Memory.{ixOf, storeOk, ownOk, ownOkIx, basesOk, ownRefusal, zeros, emptyIx, StoreSized, Sized}
+use Rattle.index_memory.specs.Memory.{Ix, ixOf, storeOk, ownOk, ownOkIx, basesOk, ownRefusal, emptyIx, done, emptyOf, StoreSized, Sized}
 
 pub store-sized : (d cap mode lm lv : ℕ) → storeOk d cap mode lm lv ≡ true → StoreSized d cap mode lm lv
 unfolding storeOk
@@ -72,7 +73,7 @@ module _ (d n cap mode lf lm lv : ℕ) where
   own-first c r h = one-bad (geoOk d n cap mode) (ownOk d n cap mode lf lm lv) c r h
 
 -- zeros of the right lengths are the empty index, and it has the right lengths
-pub empty-is : (g : Geo) (lf lm lv : ℕ) → Sized (g .d) (g .n) (g .cap) (g .mode) lf lm lv → ixOf (zeros lf) (zeros lm) (zeros lv) ≡ emptyIx g
+pub empty-is : (g : Geo) (lf lm lv : ℕ) → Sized (g .d) (g .n) (g .cap) (g .mode) lf lm lv → ixOf (empty lf) (empty lm) (empty lv) ≡ emptyIx g
 unfolding emptyIx
 empty-is g lf lm lv s = rw (s .faces, s .marks, s .vecs) refl
 
@@ -81,3 +82,14 @@ unfolding emptyIx
 empty-own g =
     own-good (g .d) (g .n) (g .cap) (g .mode) _ _ _ (length-replicate (faceWords (g .d) (g .n) (g .cap)) 0) (length-replicate (setWords (g .cap)) 0)
     (length-replicate (vectorBytes (g .d) (g .cap) (g .mode)) 0)
+
+-- ---- the ways out of making empty
+
+module _ (g : Geo) (ix : Ix) where
+  pub empty-refused : (r : ℕ) → r ≡ ownRefusal (g .d) (g .n) (g .cap) (g .mode) (length (ix .faces)) (length (ix .marks)) (length (ix .vecs)) → (r ≡ 0 → ⊥) → done r ix ≡ emptyOf g ix
+  unfolding emptyOf
+  empty-refused r e h = simp (← e, ne-eqb r 0 h)
+
+  pub empty-done : (r : ℕ) (ix' : Ix) → r ≡ ownRefusal (g .d) (g .n) (g .cap) (g .mode) (length (ix .faces)) (length (ix .marks)) (length (ix .vecs)) → r ≡ 0 → ix' ≡ emptyIx g → done 0 ix' ≡ emptyOf g ix
+  unfolding emptyOf
+  empty-done r ix' e z i = rw (sym e ∙ z, i)

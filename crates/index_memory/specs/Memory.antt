@@ -6,8 +6,9 @@ use mathlib.Core.Bool.{Bool}
 use lib.Dec.{eqb}
 use lib.Ieee.{Float, binary32, ofBits}
 use lib.ListN.{length, take, drop, replicate}
-use Rattle.paper.specs.Choice.{_and_, refuse}
+use Rattle.paper.specs.Choice.{_and_, pick, refuse}
 use Rattle.paper.specs.Geometry.{Geo, GeoFacts, geoOk, compSize, setWords, basesLen, faceWords, vectorBytes}
+use Rattle.bitmaps.specs.Words.{empty}
 
 -- the words of the face sets, the words of the present marks, the bytes of the stored vectors
 pub record Ix : Type 0 where
@@ -39,16 +40,29 @@ ownOkIx g ix = ownOk (g .d) (g .n) (g .cap) (g .mode) (length (ix .faces)) (leng
 unfoldable pub ownRefusal : ℕ → ℕ → ℕ → ℕ → ℕ → ℕ → ℕ → ℕ
 ownRefusal d n cap mode lf lm lv = refuse 1 (geoOk d n cap mode) (refuse 2 (ownOk d n cap mode lf lm lv) 0)
 
--- a cleared memory: m floats of +0.0; m words, or bytes, of 0
+-- ---- empty
+
+-- a cleared memory: m floats of +0.0; m words, or bytes, of 0 are bitmaps `empty`
 abbrev pub floatZeros : ℕ → List Float
 floatZeros m = replicate m (ofBits binary32 0)
 
-abbrev pub zeros : ℕ → List ℕ
-zeros m = replicate m 0
-
 -- an empty index is all zeros
 unfoldable pub emptyIx : Geo → Ix
-emptyIx g = ixOf (zeros (faceWords (g .d) (g .n) (g .cap))) (zeros (setWords (g .cap))) (zeros (vectorBytes (g .d) (g .cap) (g .mode)))
+emptyIx g = ixOf (empty (faceWords (g .d) (g .n) (g .cap))) (empty (setWords (g .cap))) (empty (vectorBytes (g .d) (g .cap) (g .mode)))
+
+-- the answer of a call that changes an index, and the index afterwards
+pub record Done : Type 0 where
+  pub answer : ℕ
+  pub ix : Ix
+
+abbrev pub done : ℕ → Ix → Done
+done r ix = record { answer = r; ix = ix }
+
+-- making an index empty: 1, then 2; else the empty index, whatever the memory held
+unfoldable pub emptyOf : Geo → Ix → Done
+emptyOf g ix =
+    let r = ownRefusal (g .d) (g .n) (g .cap) (g .mode) (length (ix .faces)) (length (ix .marks)) (length (ix .vecs)) in
+    done r (pick (eqb r 0) (emptyIx g) ix)
 
 -- ---- places
 

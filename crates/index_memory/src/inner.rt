@@ -2,7 +2,8 @@
 ghost use mathlib.Core.Path.{_≡_};
 ghost use Prim.Native.Nat.{_≤_};
 ghost use lib.ListN.{length};
-ghost use Rattle.index_memory.specs.Memory.{storeOk, ownOk, basesOk, floatZeros, zeros};
+ghost use Rattle.bitmaps.specs.Words.{empty};
+ghost use Rattle.index_memory.specs.Memory.{storeOk, ownOk, basesOk, floatZeros};
 
 // Whether marks and stored vectors have their lengths.
 pub fn store_lengths_ok(d: usize, cap: usize, mode: usize, marks: usize, vectors: usize) -> bool
@@ -55,7 +56,7 @@ pub fn clear_floats(work: &mut [f32])
 
 // Makes every byte 0.
 pub fn clear_bytes(bytes: &mut [u8])
-    ensures { λ _. ⌜ now (bytes .exit) ≡ zeros (length (now (bytes .entry))) ⌝ }
+    ensures { λ _. ⌜ now (bytes .exit) ≡ empty (length (now (bytes .entry))) ⌝ }
 {
     let mut i = 0;
     while i < bytes.len() {

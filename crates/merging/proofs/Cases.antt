@@ -1,4 +1,4 @@
--- The ways out of making empty and of merging, on plain values. Assumes nothing.
+-- The ways out of merging, on plain values. Assumes nothing.
 use Prim.Native.Nat.{ℕ, _*_}
 use mathlib.Core.Path.{_≡_, sym, ap₂, _∙_}
 use mathlib.Core.List.{List}
@@ -9,24 +9,13 @@ use lib.ListN.{length}
 use borrow.Author.Tests.{ne-eqb}
 use Rattle.paper.specs.Geometry.{Geo, geoOk, compSize}
 use Rattle.paper.proofs.Geometry.{comp-le}
-use Rattle.index_memory.specs.Memory.{Ix, ixOf, ownOkIx, ownRefusal, emptyIx, Sized}
+use Rattle.index_memory.specs.Memory.{Ix, ixOf, ownOkIx, ownRefusal, done, Sized}
 use Rattle.index_memory.proofs.Lengths.{own-tests, own-first, own-sized}
 use Rattle.bitmaps.specs.Words.{union, shared, isEmpty}
-use Rattle.merging.specs.Merging.{done, emptyOf, copied, mergedIx, mergeRefusal, mergeOf, CopyArgs}
+use Rattle.merging.specs.Merging.{copied, mergedIx, mergeRefusal, mergeOf, CopyArgs}
 
 abbrev own : Geo → Ix → ℕ
 own g ix = ownRefusal (g .d) (g .n) (g .cap) (g .mode) (length (ix .faces)) (length (ix .marks)) (length (ix .vecs))
-
-module _ (g : Geo) (ix : Ix) where
-  pub empty-refused : (r : ℕ) → r ≡ own g ix → (r ≡ 0 → ⊥) → done r ix ≡ emptyOf g ix
-  unfolding emptyOf
-  empty-refused r e h = simp (← e, ne-eqb r 0 h)
-
-  pub empty-done : (r : ℕ) (ix' : Ix) → r ≡ own g ix → r ≡ 0 → ix' ≡ emptyIx g → done 0 ix' ≡ emptyOf g ix
-  unfolding emptyOf
-  empty-done r ix' e z i = rw (sym e ∙ z, i)
-
--- ---- merging
 
 module _ (g : Geo) (a b : Ix) (r : ℕ) (e : r ≡ own g a) where
   pub merge-first : (r ≡ 0 → ⊥) → done r a ≡ mergeOf g a b

@@ -1,32 +1,14 @@
--- Making an index empty, and merging a second index into a first one (01, "Geometry and memory", "Store and search").
+-- Merging a second index into a first one (01, "Store and search").
 use Prim.Native.Nat.{ℕ, zero, suc, _*_, _≤_}
 use mathlib.Core.Path.{_≡_}
 use mathlib.Core.List.{List}
 use lib.Dec.{eqb}
-use lib.ListN.{length, take, drop}
+use lib.ListN.{take, drop}
 use lib.Seq.{sets}
 use Rattle.paper.specs.Choice.{_and_, pick, refuse}
 use Rattle.paper.specs.Geometry.{Geo, geoOk}
-use Rattle.index_memory.specs.Memory.{Ix, ixOf, ownOkIx, ownRefusal, emptyIx, slotBytes}
+use Rattle.index_memory.specs.Memory.{Ix, ixOf, ownOkIx, Done, done, slotBytes}
 use Rattle.bitmaps.specs.Words.{holds, union, shared, isEmpty}
-
--- the answer, and the index afterwards
-pub record Done : Type 0 where
-  pub answer : ℕ
-  pub ix : Ix
-
-abbrev pub done : ℕ → Ix → Done
-done r ix = record { answer = r; ix = ix }
-
--- ---- empty
-
--- 1, then 2; else the empty index, whatever the memory held
-unfoldable pub emptyOf : Geo → Ix → Done
-emptyOf g ix =
-    let r = ownRefusal (g .d) (g .n) (g .cap) (g .mode) (length (ix .faces)) (length (ix .marks)) (length (ix .vecs)) in
-    done r (pick (eqb r 0) (emptyIx g) ix)
-
--- ---- merging
 
 -- slots of `size` bytes, of which those of the marked ids among the first k are copied
 unfoldable pub copied : ℕ → ℕ → List ℕ → List ℕ → List ℕ → List ℕ

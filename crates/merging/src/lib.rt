@@ -1,35 +1,14 @@
-// Making an index empty (vector_store.rs's new) and merging a second index into a first one, over lent memory.
+// Merging a second index into a first one, over lent memory.
 ghost use mathlib.Core.Path.{_≡_};
 ghost use Prim.Native.Nat.{_+_, _*_, _≤_};
 ghost use lib.ListN.{length, take, drop};
 ghost use lib.Seq.{sets};
 ghost use Rattle.paper.specs.Geometry.{geo};
-ghost use Rattle.index_memory.specs.Memory.{ixOf};
+ghost use Rattle.index_memory.specs.Memory.{ixOf, done};
 ghost use Rattle.bitmaps.specs.Words.{shared, isEmpty};
-ghost use Rattle.merging.specs.Merging.{done, emptyOf, copied, mergeOf, CopyArgs};
+ghost use Rattle.merging.specs.Merging.{copied, mergeOf, CopyArgs};
+ghost use Rattle.merging.specs.Laws.{Laws};
 use bitmaps::Found;
-
-// Makes the index empty: zeros in face sets, marks and stored vectors. Refuses 1, then 2, and changes nothing then.
-pub fn new_vector_store(
-    faces: &mut [u64],
-    marks: &mut [u64],
-    vectors: &mut [u8],
-    d: usize,
-    n: usize,
-    cap: usize,
-    mode: usize,
-) -> u32
-    ensures { λ r. ⌜ done r (ixOf (now (faces .exit)) (now (marks .exit)) (now (vectors .exit))) ≡ emptyOf (geo d n cap mode) (ixOf (now (faces .entry)) (now (marks .entry)) (now (vectors .entry))) ⌝ }
-{
-    let r = index_memory::own_refusal(d, n, cap, mode, faces.len(), marks.len(), vectors.len());
-    if r != 0 {
-        return r;
-    }
-    bitmaps::inner::clear(faces);
-    bitmaps::inner::clear(marks);
-    index_memory::inner::clear_bytes(vectors);
-    0
-}
 
 // Whether no id is in both sets, a word of each at a time.
 fn share_nothing(a: &[u64], b: &[u64]) -> bool
@@ -117,3 +96,8 @@ pub fn merge(
     bitmaps::inner::or(marks, marks2);
     0
 }
+
+// The laws of this crate, claimed: specs/Laws.antt says each of them.
+pub fn laws()
+    ensures { λ _. ⌜ Laws ⌝ }
+{}

@@ -11,7 +11,7 @@ use borrow.Author.Tests.{eqb-true, eq-eqb, ne-eqb}
 use lib.Dec.{eqb}
 use lib.Ieee.{Float}
 use lib.ListN.{length, take, drop, length-drop}
-use lib.Seq.{sets, length-sets, length-take-le}
+use lib.Seq.{sets, length-take-le}
 use Rattle.paper.specs.Choice.{_and_, pick}
 use Rattle.paper.specs.Geometry.{Geo, geoOk, faceWords, setWords}
 use Rattle.index_memory.specs.Memory.{Ix, emptyIx, faceBit, slotBytes, floatZeros}
@@ -23,27 +23,18 @@ use lib.Bits.{bitOr}
 use Rattle.vector.specs.Norm.{normalized}
 use Rattle.quantization.specs.Stored.{lowerBytes}
 use Rattle.adding.specs.Adding.{faceSlot, withFaces, withVector, addedIx, Shaped}
-use Rattle.adding.proofs.Laws.{length-stored}
+use Rattle.adding.proofs.Accepted.{length-stored}
+use Rattle.adding.proofs.Faces.{length-faces}
+use Rattle.merging.proofs.Merged.{length-copied}
 use Rattle.merging.specs.Merging.{copied, mergedIx, mergeRefusal, mergeOf}
-use Rattle.order_free.specs.Order.{Addition, Call, whats, Lent, run, Shuffle, Fresh, Distinct, Deal, one, two, dealt, built, Accepted}
+use Rattle.order_free.specs.Order.{Addition, Call, whats, WorkLent, run, Shuffle, Fresh, Distinct, Deal, one, two, dealt, built, AllAccepted}
 use Rattle.order_free.specs.Grown.{lastOr, taken, takenAs, markOf}
 use Rattle.bitmaps.proofs.Members.{has-empty}
 use Rattle.order_free.proofs.Words.{union-inserted, union-empty, has-put, share-none}
-use Rattle.order_free.proofs.Orders.{length-faces, ix-eq, SameLen, same-trans, same-sym, num, num-same, put, puts, put-same, puts-same, shape-good, run-is, distinct-shuffle, puts-shuffle}
+use Rattle.order_free.proofs.Orders.{ix-eq, SameLen, same-trans, same-sym, num, num-same, put, puts, put-same, puts-same, shape-good, run-is, distinct-shuffle, puts-shuffle}
 use Rattle.order_free.proofs.Grows.{grown-puts}
 
 -- ---- copied slots
-
-length-pick : (b : Bool) (x y : List ℕ) (n : ℕ) → length x ≡ n → length y ≡ n → length (pick b x y) ≡ n
-length-pick true x y n p q = p
-length-pick false x y n p q = q
-
-length-copied : (size k : ℕ) (ms from vs : List ℕ) → length (copied size k ms from vs) ≡ length vs
-unfolding copied
-length-copied size zero ms from vs = refl
-length-copied size (suc k) ms from vs =
-    length-pick (holds ms k) _ _ (length vs)
-    (length-sets (copied size k ms from vs) (k * size) (take size (drop (k * size) from)) ∙ length-copied size k ms from vs) (length-copied size k ms from vs)
 
 -- an index without marks copies nothing
 copied-none : (size k n : ℕ) (from vs : List ℕ) → copied size k (empty n) from vs ≡ vs
@@ -296,15 +287,15 @@ module _ (g : Geo) (bs : List Float) where
     whats-append [] ds = refl
     whats-append (c ∷ cs) ds = ap (λ (r : List Addition). c .what ∷ r) (whats-append cs ds)
 
-    lent-l : (cs ds : List Call) → Lent g (cs ++ ds) → Lent g cs
+    lent-l : (cs ds : List Call) → WorkLent g (cs ++ ds) → WorkLent g cs
     lent-l [] ds l = tt
     lent-l (c ∷ cs) ds l = (l .0, lent-l cs ds (l .1))
 
-    lent-r : (cs ds : List Call) → Lent g (cs ++ ds) → Lent g ds
+    lent-r : (cs ds : List Call) → WorkLent g (cs ++ ds) → WorkLent g ds
     lent-r [] ds l = l
     lent-r (c ∷ cs) ds l = lent-r cs ds (l .1)
 
-    built-is : (t : Deal) → Lent g (dealt t) → Distinct (whats (dealt t)) → (built g bs t ≡ of (whats (dealt t))) × Accepted g bs t
+    built-is : (t : Deal) → WorkLent g (dealt t) → Distinct (whats (dealt t)) → (built g bs t ≡ of (whats (dealt t))) × AllAccepted g bs t
     unfolding built
     built-is (one cs) l f = (run-is g bs cs (emptyIx g) l, tt)
     built-is (two p q) l f =
@@ -318,8 +309,8 @@ module _ (g : Geo) (bs : List Float) where
 
     -- DEMAND 3, merging: dealt out in any way to empty indexes, which are merged in any order and grouping, additions with different ids give the
     -- index that any order of them gives, every merge answers 0, and no work memory matters
-    pub any-deal : (cs : List Call) → Lent g cs → Distinct (whats cs) → (t : Deal) → Lent g (dealt t) → Shuffle (whats cs) (whats (dealt t))
-        → (built g bs t ≡ run g bs cs (emptyIx g)) × Accepted g bs t
+    pub any-deal : (cs : List Call) → WorkLent g cs → Distinct (whats cs) → (t : Deal) → WorkLent g (dealt t) → Shuffle (whats cs) (whats (dealt t))
+        → (built g bs t ≡ run g bs cs (emptyIx g)) × AllAccepted g bs t
     any-deal cs l f t m s =
         let b = built-is t m (distinct-shuffle s f) in
         (b .0 ∙ sym (puts-shuffle g bs s f (emptyIx g)) ∙ sym (run-is g bs cs (emptyIx g) l), b .1)

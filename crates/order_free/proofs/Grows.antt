@@ -14,33 +14,34 @@ use lib.ListN.{length, take, drop, length-replicate, length-drop, take-append-dr
 use lib.Seq.{sets, drop-drop}
 use Rattle.paper.specs.Choice.{_and_, pick}
 use Rattle.paper.specs.Geometry.{Geo, geoOk, faceWords, setWords, vectorBytes}
-use Rattle.index_memory.specs.Memory.{Ix, emptyIx, ownOkIx, faceBit, slotBytes, slotAt, storedAt, zeros, floatZeros}
+use Rattle.index_memory.specs.Memory.{Ix, emptyIx, ownOkIx, faceBit, slotBytes, slotAt, storedAt, floatZeros}
 use Rattle.index_memory.proofs.Lengths.{own-good, own-sized}
-use Rattle.index_memory.proofs.Places.{place, mark-low, face-bit-low}
+use Rattle.index_memory.proofs.Places.{place, mark-low}
 use Rattle.index_memory.proofs.Stores.{part-sets, part-same}
-use Rattle.bitmaps.specs.Words.{has}
+use Rattle.bitmaps.specs.Words.{has, empty}
 use Rattle.bitmaps.proofs.Digits.{Words}
 use Rattle.vector.specs.Norm.{normalized}
 use Rattle.quantization.specs.Stored.{lowerBytes}
 use Rattle.adding.specs.Adding.{faceSlot, withFaces, withVector, addedIx, Shaped}
-use Rattle.adding.proofs.Laws.{length-stored, face-slot-low}
-use Rattle.order_free.specs.Order.{Addition, Call, whats, Lent, run}
+use Rattle.adding.proofs.Accepted.{length-stored}
+use Rattle.adding.proofs.Faces.{face-room}
+use Rattle.order_free.specs.Order.{Addition, Call, whats, WorkLent, run}
 use Rattle.order_free.specs.Grown.{lastOr, taken, takenAs, faceAmong, takenAt, Grown}
 use Rattle.bitmaps.proofs.Members.{has-empty, same-words, words-empty}
 use Rattle.order_free.proofs.Words.{has-put, words-inserted}
-use Rattle.order_free.proofs.Orders.{ix-eq, SameLen, same-refl, same-trans, num, num-same, put, puts, put-same, puts-same, shape-good, length-faces, run-is}
+use Rattle.order_free.proofs.Orders.{ix-eq, SameLen, same-refl, same-trans, num, num-same, put, puts, put-same, puts-same, shape-good, run-is}
 
 -- ---- lists of zeros, and lists by their parts
 
-take-zeros : (m n : ℕ) → m ≤ n → take m (zeros n) ≡ zeros m
+take-zeros : (m n : ℕ) → m ≤ n → take m (empty n) ≡ empty m
 take-zeros zero n h = refl
 take-zeros (suc m) zero h = let no : ⊥ = omega arith in absurd no
 take-zeros (suc m) (suc n) h = let h' : m ≤ n = omega arith in ap (λ (r : List ℕ). 0 ∷ r) (take-zeros m n h')
 
-drop-zeros : (k n : ℕ) → drop k (zeros n) ≡ zeros (n - k)
-drop-zeros zero n = ap zeros (let e : n ≡ n - 0 = omega arith in e)
-drop-zeros (suc k) zero = ap zeros (let e : 0 ≡ 0 - suc k = omega arith in e)
-drop-zeros (suc k) (suc n) = drop-zeros k n ∙ ap zeros (let e : n - k ≡ suc n - suc k = omega arith in e)
+drop-zeros : (k n : ℕ) → drop k (empty n) ≡ empty (n - k)
+drop-zeros zero n = ap empty (let e : n ≡ n - 0 = omega arith in e)
+drop-zeros (suc k) zero = ap empty (let e : 0 ≡ 0 - suc k = omega arith in e)
+drop-zeros (suc k) (suc n) = drop-zeros k n ∙ ap empty (let e : n - k ≡ suc n - suc k = omega arith in e)
 
 -- two lists of n parts of s elements each are equal if their parts are
 pub parts-ext : (n s : ℕ) (a b : List ℕ) → length a ≡ n * s → length b ≡ n * s → ((i : ℕ) → i < n → take s (drop (i * s) a) ≡ take s (drop (i * s) b)) → a ≡ b
@@ -118,24 +119,21 @@ module _ (g : Geo) (bs : List Float) where
     abbrev with : ℕ → List ℕ
     with m = withFaces (g .d) (g .cap) (a .id) (faceSlot (g .d) bs (a .v)) m (ix .faces)
 
-    face-room : (b : ℕ) → b < g .n → faceBit (g .d) (g .cap) b (faceSlot (g .d) bs (a .v) b) (a .id) < length (with b) * 64
-    face-room b l =
-        subst (λ (k : ℕ). faceBit (g .d) (g .cap) b (faceSlot (g .d) bs (a .v) b) (a .id) < k * 64)
-        (sym (length-faces (g .d) (g .cap) (a .id) (faceSlot (g .d) bs (a .v)) b (ix .faces) ∙ s .faces))
-        (face-bit-low (g .d) (g .n) (g .cap) b (faceSlot (g .d) bs (a .v) b) (a .id) (s .facts .cap-even) l (face-slot-low (g .d) bs (a .v) b (s .vector) (s .facts .d-low)) (s .id-low))
+    room : (b : ℕ) → b < g .n → faceBit (g .d) (g .cap) b (faceSlot (g .d) bs (a .v) b) (a .id) < length (with b) * 64
+    room b l = face-room g bs (a .id) (a .v) (ix .faces) _ _ _ _ s b b l
 
     faces-has : (k m : ℕ) → m ≤ g .n → has (with m) k ≡ pick (faceAmong g bs k m a) 1 (has (ix .faces) k)
     unfolding withFaces faceAmong
     faces-has k zero h = refl
     faces-has k (suc b) h =
-        has-put (with b) (faceBit (g .d) (g .cap) b (faceSlot (g .d) bs (a .v) b) (a .id)) k (face-room b h)
+        has-put (with b) (faceBit (g .d) (g .cap) b (faceSlot (g .d) bs (a .v) b) (a .id)) k (room b h)
         ∙ ap (λ (x : ℕ). pick (eqb (faceBit (g .d) (g .cap) b (faceSlot (g .d) bs (a .v) b) (a .id)) k) 1 x) (faces-has k b (omega arith))
         ∙ pick-two (eqb (faceBit (g .d) (g .cap) b (faceSlot (g .d) bs (a .v) b) (a .id)) k) (faceAmong g bs k b a) (has (ix .faces) k)
 
     faces-words : (m : ℕ) → m ≤ g .n → Words (ix .faces) → Words (with m)
     unfolding withFaces
     faces-words zero h w = w
-    faces-words (suc b) h w = words-inserted (with b) _ (face-room b h) (faces-words b (omega arith) w)
+    faces-words (suc b) h w = words-inserted (with b) _ (room b h) (faces-words b (omega arith) w)
 
   face-law : (k : ℕ) (a : Addition) (ix : Ix) → ShapedFor a ix → has (addedIx g bs (a .id) (a .v) ix .faces) k ≡ pick (faceAmong g bs k (g .n) a) 1 (has (ix .faces) k)
   unfolding addedIx
@@ -170,7 +168,7 @@ module _ (g : Geo) (bs : List Float) where
 
   -- ---- from an empty index
 
-  stored-empty : (i : ℕ) → i < g .cap → storedAt (g .d) (g .mode) (emptyIx g .vecs) i ≡ zeros (slotBytes (g .d) (g .mode))
+  stored-empty : (i : ℕ) → i < g .cap → storedAt (g .d) (g .mode) (emptyIx g .vecs) i ≡ empty (slotBytes (g .d) (g .mode))
   unfolding emptyIx
   stored-empty i h =
       let le : slotBytes (g .d) (g .mode) ≤ vectorBytes (g .d) (g .cap) (g .mode) - slotAt (g .d) (g .mode) i = omega (arith, place i (g .cap) (slotBytes (g .d) (g .mode)) h) in
@@ -217,7 +215,7 @@ module _ (g : Geo) (bs : List Float) where
       }
 
   -- THE FINAL INDEX: additions to an empty index leave the index that Grown says, whatever work memory the calls are lent
-  pub grown-run : (cs : List Call) → Lent g cs → Grown g bs (whats cs) (run g bs cs (emptyIx g))
+  pub grown-run : (cs : List Call) → WorkLent g cs → Grown g bs (whats cs) (run g bs cs (emptyIx g))
   grown-run cs l = subst (λ (x : Ix). Grown g bs (whats cs) x) (sym (run-is g bs cs (emptyIx g) l)) (grown-puts (whats cs))
 
   -- and Grown says it all: two indexes of which it holds are equal, byte for byte

@@ -16,18 +16,14 @@ use Rattle.bitmaps.specs.Words.{inserted}
 use Rattle.vector.specs.Norm.{normalized}
 use Rattle.quantization.specs.Stored.{lowerBytes}
 use Rattle.adding.specs.Adding.{faceSlot, withFaces, withVector, addedIx, addRefusal, addOf, Shaped}
-use Rattle.adding.proofs.Laws.{length-stored, accepted-shape}
-use Rattle.order_free.specs.Order.{Addition, Call, whats, Lent, answer, step, run, Shuffle, none, keep, swap, then, Fresh, Distinct}
+use Rattle.adding.proofs.Accepted.{length-stored, accepted-shape}
+use Rattle.adding.proofs.Faces.{length-faces}
+use Rattle.order_free.specs.Order.{Addition, Call, whats, WorkLent, answer, step, run, Shuffle, none, keep, swap, then, Fresh, Distinct}
 use Rattle.order_free.proofs.Words.{inserted-comm, length-inserted}
 
 -- ---- face bits
 
 module _ (d cap id : ℕ) (slot : ℕ → ℕ) where
-  pub length-faces : (n : ℕ) (fs : List ℕ) → length (withFaces d cap id slot n fs) ≡ length fs
-  unfolding withFaces
-  length-faces zero fs = refl
-  length-faces (suc b) fs = length-inserted (withFaces d cap id slot b fs) _ ∙ length-faces b fs
-
   faces-put : (n : ℕ) (fs : List ℕ) (k : ℕ) → withFaces d cap id slot n (inserted fs k) ≡ inserted (withFaces d cap id slot n fs) k
   unfolding withFaces
   faces-put zero fs k = refl
@@ -117,7 +113,7 @@ module _ (g : Geo) (bs : List Float) where
   unfolding step addOf put
   step-is c ix e = ap (λ (r : ℕ). pick (eqb r 0) (addedIx g bs (c .what .id) (c .what .v) ix) ix) (num-is c ix e)
 
-  pub run-is : (cs : List Call) (ix : Ix) → Lent g cs → run g bs cs ix ≡ puts (whats cs) ix
+  pub run-is : (cs : List Call) (ix : Ix) → WorkLent g cs → run g bs cs ix ≡ puts (whats cs) ix
   unfolding run puts
   run-is [] ix l = refl
   run-is (c ∷ cs) ix l = run-is cs (step g bs c ix) (l .1) ∙ ap (λ (x : Ix). puts (whats cs) x) (step-is c ix (l .0))
@@ -181,11 +177,11 @@ module _ (g : Geo) (bs : List Float) where
   puts-shuffle (swap {a = a} {b = b} {xs = xs}) f ix = ap (λ (x : Ix). puts g bs xs x) (put-comm g bs a b ix (λ e. f .0 .0 (sym e)))
   puts-shuffle (then s t) f ix = puts-shuffle s f ix ∙ puts-shuffle t (distinct-shuffle s f) ix
 
-  run-same : (cs : List Call) → Lent g cs → (ix : Ix) → SameLen (run g bs cs ix) ix
+  run-same : (cs : List Call) → WorkLent g cs → (ix : Ix) → SameLen (run g bs cs ix) ix
   run-same cs l ix = subst (λ (x : Ix). SameLen x ix) (sym (run-is g bs cs ix l)) (puts-same g bs (whats cs) ix)
 
   -- DEMAND 3, answers: an addition's answer is the same after any additions, and whatever work memory the calls are lent
-  pub answer-anywhere : (cs ds : List Call) → Lent g cs → Lent g ds → (c d : Call) → length (c .work) ≡ g .d → length (d .work) ≡ g .d → c .what ≡ d .what
+  pub answer-anywhere : (cs ds : List Call) → WorkLent g cs → WorkLent g ds → (c d : Call) → length (c .work) ≡ g .d → length (d .work) ≡ g .d → c .what ≡ d .what
       → answer g bs c (run g bs cs (emptyIx g)) ≡ answer g bs d (run g bs ds (emptyIx g))
   unfolding answer addOf
   answer-anywhere cs ds lc ld c d p q e =
@@ -194,5 +190,5 @@ module _ (g : Geo) (bs : List Float) where
 
   -- DEMAND 3, the index: every order of additions with different ids gives the same index, byte for byte, from any index and so from an empty
   -- one, and whatever work memory the calls are lent
-  pub run-shuffle : (cs ds : List Call) → Lent g cs → Lent g ds → Shuffle (whats cs) (whats ds) → Distinct (whats cs) → (ix : Ix) → run g bs cs ix ≡ run g bs ds ix
+  pub run-shuffle : (cs ds : List Call) → WorkLent g cs → WorkLent g ds → Shuffle (whats cs) (whats ds) → Distinct (whats cs) → (ix : Ix) → run g bs cs ix ≡ run g bs ds ix
   run-shuffle cs ds lc ld s f ix = run-is g bs cs ix lc ∙ puts-shuffle s f ix ∙ sym (run-is g bs ds ix ld)

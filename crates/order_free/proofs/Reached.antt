@@ -6,14 +6,14 @@ use mathlib.Core.Bool.{true}
 use lib.Ieee.{Float}
 use lib.ListN.{length, length-replicate}
 use Rattle.paper.specs.Geometry.{Geo, geoOk}
-use Rattle.index_memory.specs.Memory.{Ix, emptyIx, ownOkIx, ownRefusal}
+use Rattle.index_memory.specs.Memory.{Ix, emptyIx, ownOkIx, ownRefusal, Done, done, emptyOf}
 use Rattle.adding.specs.Adding.{Added, added, addOf}
-use Rattle.merging.specs.Merging.{Done, done, emptyOf, mergeOf}
-use Rattle.order_free.specs.Order.{Addition, Call, whats, Lent, step, run, swap, Deal, one, two, built, Accepted, calls, filled, FillArgs}
+use Rattle.merging.specs.Merging.{mergeOf}
+use Rattle.order_free.specs.Order.{Addition, Call, whats, WorkLent, step, run, swap, Deal, one, two, built, AllAccepted, calls, filled, FillArgs}
 use Rattle.order_free.proofs.Orders.{run-is, puts, run-shuffle}
 use Rattle.order_free.proofs.Deals.{any-deal, puts-append}
 
-lent-calls : (g : Geo) (xs : List Addition) → Lent g (calls g xs)
+lent-calls : (g : Geo) (xs : List Addition) → WorkLent g (calls g xs)
 lent-calls g [] = tt
 lent-calls g (a ∷ xs) = (length-replicate (g .d) _, lent-calls g xs)
 
@@ -54,27 +54,27 @@ module _ (g : Geo) (bs : List Float) where
   two-filled a b ix ix' r w w' l e h = more-filled (a ∷ []) (a ∷ b ∷ []) b ix ix' r w w' refl l e h
 
   -- two orders
-  pub either-order : (a b : Addition) → (a .id ≡ b .id → ⊥) → filled g bs (a ∷ b ∷ []) ≡ filled g bs (b ∷ a ∷ [])
+  pub either-order : (a b : Addition) → (a .id ≡ b .id → ⊥) → (x y : Ix) → x ≡ filled g bs (a ∷ b ∷ []) → y ≡ filled g bs (b ∷ a ∷ []) → x ≡ y
   unfolding filled
-  either-order a b ne =
-      run-shuffle g bs (calls g (a ∷ b ∷ [])) (calls g (b ∷ a ∷ [])) (lent-calls g (a ∷ b ∷ [])) (lent-calls g (b ∷ a ∷ [])) swap (((λ e. ne (sym e)), tt), (tt, tt)) (emptyIx g)
+  either-order a b ne x y p q =
+      p ∙ run-shuffle g bs (calls g (a ∷ b ∷ [])) (calls g (b ∷ a ∷ [])) (lent-calls g (a ∷ b ∷ [])) (lent-calls g (b ∷ a ∷ [])) swap (((λ e. ne (sym e)), tt), (tt, tt)) (emptyIx g) ∙ sym q
 
   -- two deals
   abbrev pair : Addition → Addition → Deal
   pair a b = two (one (calls g (a ∷ []))) (one (calls g (b ∷ [])))
 
   both-deals : geoOk (g .d) (g .n) (g .cap) (g .mode) ≡ true → (a b : Addition) → (a .id ≡ b .id → ⊥)
-      → (built g bs (pair a b) ≡ run g bs (calls g (b ∷ a ∷ [])) (emptyIx g)) × Accepted g bs (pair a b)
+      → (built g bs (pair a b) ≡ run g bs (calls g (b ∷ a ∷ [])) (emptyIx g)) × AllAccepted g bs (pair a b)
   both-deals good a b ne =
       any-deal g bs good (calls g (b ∷ a ∷ [])) (lent-calls g (b ∷ a ∷ [])) ((ne, tt), (tt, tt)) (pair a b) (length-replicate (g .d) _, (length-replicate (g .d) _, tt)) swap
 
-  pub either-deal : geoOk (g .d) (g .n) (g .cap) (g .mode) ≡ true → (a b : Addition) → (a .id ≡ b .id → ⊥) → (x y z : Ix) (r : ℕ) → x ≡ filled g bs (a ∷ []) → y ≡ filled g bs (b ∷ [])
-      → done r z ≡ mergeOf g x y → (r ≡ 0) × (z ≡ filled g bs (b ∷ a ∷ []))
+  pub either-deal : geoOk (g .d) (g .n) (g .cap) (g .mode) ≡ true → (a b : Addition) → (a .id ≡ b .id → ⊥) → (x y z u : Ix) (r : ℕ) → x ≡ filled g bs (a ∷ []) → y ≡ filled g bs (b ∷ [])
+      → done r z ≡ mergeOf g x y → u ≡ filled g bs (b ∷ a ∷ []) → (r ≡ 0) × (z ≡ u)
   unfolding filled built
-  either-deal good a b ne x y z r p q e =
+  either-deal good a b ne x y z u r p q e f =
       let t = both-deals good a b ne in
       let m : mergeOf g x y ≡ mergeOf g (run g bs (calls g (a ∷ [])) (emptyIx g)) (run g bs (calls g (b ∷ [])) (emptyIx g)) = ap₂ (λ (i j : Ix). mergeOf g i j) p q in
-      (ap (λ (d : Done). d .answer) (e ∙ m) ∙ t .1 .0, ap (λ (d : Done). d .ix) (e ∙ m) ∙ t .0)
+      (ap (λ (d : Done). d .answer) (e ∙ m) ∙ t .1 .0, ap (λ (d : Done). d .ix) (e ∙ m) ∙ t .0 ∙ sym f)
 
 -- the same lengths again
 pub fill-again : {d n cap mode lf lm lv lw lf' lm' lv' lw' : ℕ} → FillArgs d n cap mode lf lm lv lw → lf' ≡ lf → lm' ≡ lm → lv' ≡ lv → lw' ≡ lw → FillArgs d n cap mode lf' lm' lv' lw'

@@ -9,8 +9,8 @@ use lib.Ieee.{Float}
 use lib.ListN.{getD}
 use Rattle.paper.specs.Choice.{_and_, pick}
 use Rattle.paper.specs.Geometry.{Geo}
-use Rattle.index_memory.specs.Memory.{Ix, emptyIx, ownOkIx, faceBit, slotBytes, storedAt, zeros, floatZeros}
-use Rattle.bitmaps.specs.Words.{has}
+use Rattle.index_memory.specs.Memory.{Ix, emptyIx, ownOkIx, faceBit, slotBytes, storedAt, floatZeros}
+use Rattle.bitmaps.specs.Words.{has, empty}
 use Rattle.vector.specs.Norm.{normalized}
 use Rattle.quantization.specs.Stored.{lowerBytes}
 use Rattle.adding.specs.Adding.{faceSlot, addRefusal}
@@ -46,7 +46,7 @@ module _ (g : Geo) (bs : List Float) where
   faceOf xs k = lastOr (takenAt k) (λ (a : Addition). 1) xs 0
 
   abbrev pub bytesOf : List Addition → ℕ → List ℕ
-  bytesOf xs i = lastOr (takenAs i) (λ (a : Addition). lowerBytes (g .mode) (normalized (a .v))) xs (zeros (slotBytes (g .d) (g .mode)))
+  bytesOf xs i = lastOr (takenAs i) (λ (a : Addition). lowerBytes (g .mode) (normalized (a .v))) xs (empty (slotBytes (g .d) (g .mode)))
 
   -- an index of the right lengths that holds just that (`grown-once` in proofs/: there is one such index)
   pub record Grown (xs : List Addition) (ix : Ix) : Type 0 where

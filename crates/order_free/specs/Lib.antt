@@ -1,2 +1,3 @@
 pub mod Order
 pub mod Grown
+pub mod Laws

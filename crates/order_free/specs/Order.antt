@@ -26,9 +26,9 @@ whats [] = []
 whats (c ∷ cs) = c .what ∷ whats cs
 
 -- each call is lent work memory of the right length
-abbrev pub Lent : Geo → List Call → Type 0
-Lent g [] = Unit
-Lent g (c ∷ cs) = (length (c .work) ≡ g .d) × Lent g cs
+abbrev pub WorkLent : Geo → List Call → Type 0
+WorkLent g [] = Unit
+WorkLent g (c ∷ cs) = (length (c .work) ≡ g .d) × WorkLent g cs
 
 -- ---- one geometry and fixed bases
 
@@ -81,9 +81,9 @@ module _ (g : Geo) (bs : List Float) where
   built (two l r) = mergeOf g (built l) (built r) .ix
 
   -- every merge on the way answers 0
-  abbrev pub Accepted : Deal → Type 0
-  Accepted (one cs) = Unit
-  Accepted (two l r) = (mergeOf g (built l) (built r) .answer ≡ 0) × Accepted l × Accepted r
+  abbrev pub AllAccepted : Deal → Type 0
+  AllAccepted (one cs) = Unit
+  AllAccepted (two l r) = (mergeOf g (built l) (built r) .answer ≡ 0) × AllAccepted l × AllAccepted r
 
 -- the calls of a list of additions, each lent zeros, and what they make of an empty index
 abbrev pub calls : Geo → List Addition → List Call

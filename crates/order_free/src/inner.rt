@@ -23,7 +23,7 @@ pub fn fill_one(
     requires { ⌜ FillArgs d n cap mode (length (now faces)) (length (now marks)) (length (now vectors)) (length (now work)) ⌝ }
     ensures { λ _. ⌜ ixOf (now (faces .exit)) (now (marks .exit)) (now (vectors .exit)) ≡ filled (geo d n cap mode) (now (bases .entry)) (addition i (now (v .entry)) ∷ []) ⌝ }
 {
-    merging::new_vector_store(faces, marks, vectors, d, n, cap, mode);
+    index_memory::new_vector_store(faces, marks, vectors, d, n, cap, mode);
     adding::add_vector(bases, faces, marks, vectors, work, v, d, n, cap, mode, i);
 }
 

@@ -386,7 +386,7 @@ fn start(
     let nf = least(lengths.faces, faces.len());
     let nm = least(lengths.marks, marks.len());
     let nv = least(lengths.vectors, vectors.len());
-    let refusal = merging::new_vector_store(
+    let refusal = index_memory::new_vector_store(
         &mut faces[0..nf],
         &mut marks[0..nm],
         &mut vectors[0..nv],

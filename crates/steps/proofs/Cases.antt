@@ -25,7 +25,7 @@ use Rattle.index_memory.specs.Memory.{Ix, ixOf}
 use Rattle.adding.specs.Adding.{added, addOf}
 use Rattle.vector_store.specs.Search.{Work, works, Searched, searched, searchOf}
 use Rattle.vector_store.specs.declared.Nearest.{Nearest}
-use Rattle.vector_store.proofs.Laws.{search-sound}
+use Rattle.vector_store.proofs.Answers.{search-sound}
 use Rattle.result.specs.Sets.{wellFormed}
 use Rattle.result.specs.declared.ResultSet.{ResultSet}
 use Rattle.result.proofs.Keeps.{Sound}

@@ -23,10 +23,10 @@ use Rattle.vector.specs.Finite.{allFinite}
 use Rattle.faces.specs.Slots.{picksOf}
 use Rattle.backend_memory.specs.Ranking.{rankOf}
 use Rattle.backend_memory.proofs.Cases.{bytes-by}
-use Rattle.candidates.specs.Gathering.{Lent, lent, targetFinite, GatherIs}
+use Rattle.candidates.specs.Gathering.{Query, queryOf, targetFinite, GatherIs}
 use Rattle.candidates.specs.declared.Gathered.{Gathered}
 use Rattle.candidates.proofs.Bases.{was-finite, was-not}
-use Rattle.vector_store.specs.Search.{refused, shown, topRankOf, foundOf, Work, Searched, searched, cleared, workOk, shapeRefusal, searchRefusal, searchOf, FindArgs}
+use Rattle.vector_store.specs.Search.{refused, shown, topRankOf, foundOf, Work, Searched, searched, cleared, workOk, searchShape, searchRefusal, searchOf, FindArgs}
 use Rattle.vector_store.specs.declared.Nearest.{Nearest}
 
 -- ---- an answer from a ranking
@@ -61,7 +61,7 @@ module _ (n w sk i : ℕ) (ls : List ℕ) (e : topOf n w ls sk ≡ Layer i) (l :
 
 -- ---- past the gathering
 
-module _ (n mode k sk : ℕ) (q : Lent) (ms vs ls : List ℕ) (g : Gathered) (r : Nearest) (o : GatherIs n q g ls) where
+module _ (n mode k sk : ℕ) (q : Query) (ms vs ls : List ℕ) (g : Gathered) (r : Nearest) (o : GatherIs n q g ls) where
   pub found-refused : (g .refusal ≡ 0 → ⊥) → r ≡ refused 7 → r ≡ foundOf n mode k sk q ms vs
   unfolding foundOf
   found-refused h e = rw (was-not (targetFinite q n) (g .refusal) (o .answer) h) e
@@ -100,17 +100,18 @@ work-facts d n cap lt lw ll ls e =
 faces-by : (lf d n cap lt ls : ℕ) → lf ≡ n * (2 * d * setWords cap) → lt ≡ d → ls ≡ setWords cap → lf ≡ n * (2 * lt * ls)
 faces-by lf d n cap lt ls e p q = rw (p, q) e
 
-pub shape-work : (g : Geo) (lb lf lm lv lt lw ll ls : ℕ) → shapeRefusal g lb lf lm lv lt lw ll ls ≡ 0 → WorkFacts (g .d) (g .n) (g .cap) lt lw ll ls
-unfolding shapeRefusal
+pub shape-work : (g : Geo) (lb lf lm lv lt lw ll ls : ℕ) → searchShape g lb lf lm lv lt lw ll ls ≡ 0 → WorkFacts (g .d) (g .n) (g .cap) lt lw ll ls
+unfolding searchShape
 shape-work g lb lf lm lv lt lw ll ls e =
     let r1 = refuse-rest (geoOk (g .d) (g .n) (g .cap) (g .mode)) 1 _ not1 e in
     let r2 = refuse-rest (ownOk (g .d) (g .n) (g .cap) (g .mode) lf lm lv) 2 _ not2 r1 in
     let r3 = refuse-rest (basesOk (g .d) (g .n) lb) 2 _ not2 r2 in
     work-facts (g .d) (g .n) (g .cap) lt lw ll ls (refuse-ok (workOk (g .d) (g .n) (g .cap) lt lw ll ls) 2 0 not2 r3)
 
-pub find-args : (g : Geo) (k lb lf lm lv lt lw ll ls : ℕ) → shapeRefusal g lb lf lm lv lt lw ll ls ≡ 0 → k ≤ 256 → FindArgs (g .n) (g .mode) k lb lf lm lv lt lw ll ls
-unfolding shapeRefusal
-find-args g k lb lf lm lv lt lw ll ls e kh =
+pub find-args : (g : Geo) (k lb lf lm lv lt lw ll ls s : ℕ) → s ≡ searchShape g lb lf lm lv lt lw ll ls → s ≡ 0 → k ≤ 256 → FindArgs (g .n) (g .mode) k lb lf lm lv lt lw ll ls
+unfolding searchShape
+find-args g k lb lf lm lv lt lw ll ls s q z kh =
+    let e : searchShape g lb lf lm lv lt lw ll ls ≡ 0 = sym q ∙ z in
     let gt = refuse-ok (geoOk (g .d) (g .n) (g .cap) (g .mode)) 1 _ not1 e in
     let r1 = refuse-rest (geoOk (g .d) (g .n) (g .cap) (g .mode)) 1 _ not1 e in
     let ot = refuse-ok (ownOk (g .d) (g .n) (g .cap) (g .mode) lf lm lv) 2 _ not2 r1 in
@@ -136,26 +137,27 @@ find-args g k lb lf lm lv lt lw ll ls e kh =
 
 module _ (g : Geo) (bs : List Float) (ix : Ix) (t : List Float) (k sk spill : ℕ) (m : Work) where
   abbrev shape : ℕ
-  shape = shapeRefusal g (length bs) (length (ix .faces)) (length (ix .marks)) (length (ix .vecs)) (length t) (length (m .work)) (length (m .layers)) (length (m .set))
+  shape = searchShape g (length bs) (length (ix .faces)) (length (ix .marks)) (length (ix .vecs)) (length t) (length (m .work)) (length (m .layers)) (length (m .set))
 
   pub search-shape : (s : ℕ) (r : Nearest) → s ≡ shape → (s ≡ 0 → ⊥) → r ≡ refused s → searched r m ≡ searchOf g bs ix t k sk spill m
   unfolding searchOf searchRefusal
   search-shape s r e h q = simp (← e, ne-eqb s 0 h, q)
 
-  pub search-four : (r : Nearest) → shape ≡ 0 → 256 < k → r ≡ refused 4 → searched r m ≡ searchOf g bs ix t k sk spill m
+  pub search-four : (s : ℕ) (r : Nearest) → s ≡ shape → s ≡ 0 → 256 < k → r ≡ refused 4 → searched r m ≡ searchOf g bs ix t k sk spill m
   unfolding searchOf searchRefusal
-  search-four r z h q = simp (eq-eqb shape 0 z, lt-leb k 256 h, q)
+  search-four s r e z h q = simp (← e, eq-eqb s 0 z, lt-leb k 256 h, q)
 
-  pub search-five : (r : Nearest) → shape ≡ 0 → k ≤ 256 → allFinite t ≡ false → r ≡ refused 5 → searched r m ≡ searchOf g bs ix t k sk spill m
+  pub search-five : (s : ℕ) (r : Nearest) → s ≡ shape → s ≡ 0 → k ≤ 256 → allFinite t ≡ false → r ≡ refused 5 → searched r m ≡ searchOf g bs ix t k sk spill m
   unfolding searchOf searchRefusal
-  search-five r z h f q = simp (eq-eqb shape 0 z, le-leb k 256 h, f, q)
+  search-five s r e z h f q = simp (← e, eq-eqb s 0 z, le-leb k 256 h, f, q)
 
-  pub search-done : (x : Searched) (picks : ℕ) → shape ≡ 0 → k ≤ 256 → allFinite t ≡ true → picks ≡ picksOf (g .d) spill
-      → x ≡ searched (foundOf (g .n) (g .mode) k sk (lent bs (ix .faces) t (length (m .set)) picks) (ix .marks) (ix .vecs)) (cleared m) → x ≡ searchOf g bs ix t k sk spill m
+  pub search-done : (s : ℕ) (x : Searched) (picks : ℕ) → s ≡ shape → s ≡ 0 → k ≤ 256 → allFinite t ≡ true → picks ≡ picksOf (g .d) spill
+      → x ≡ searched (foundOf (g .n) (g .mode) k sk (queryOf bs (ix .faces) t (length (m .set)) picks) (ix .marks) (ix .vecs)) (cleared m) → x ≡ searchOf g bs ix t k sk spill m
   unfolding searchOf searchRefusal
-  search-done x picks z h f p q =
+  search-done s x picks e y h f p q =
+      let z : shape ≡ 0 = sym e ∙ y in
       let W = shape-work g (length bs) (length (ix .faces)) (length (ix .marks)) (length (ix .vecs)) (length t) (length (m .work)) (length (m .layers)) (length (m .set)) z in
-      let q′ : x ≡ searched (foundOf (g .n) (g .mode) k sk (lent bs (ix .faces) t (setWords (g .cap)) (picksOf (g .d) spill)) (ix .marks) (ix .vecs)) (cleared m) =
-      q ∙ ap (λ (v : ℕ). searched (foundOf (g .n) (g .mode) k sk (lent bs (ix .faces) t v picks) (ix .marks) (ix .vecs)) (cleared m)) (W .set)
-      ∙ ap (λ (v : ℕ). searched (foundOf (g .n) (g .mode) k sk (lent bs (ix .faces) t (setWords (g .cap)) v) (ix .marks) (ix .vecs)) (cleared m)) p in
+      let q′ : x ≡ searched (foundOf (g .n) (g .mode) k sk (queryOf bs (ix .faces) t (setWords (g .cap)) (picksOf (g .d) spill)) (ix .marks) (ix .vecs)) (cleared m) =
+      q ∙ ap (λ (v : ℕ). searched (foundOf (g .n) (g .mode) k sk (queryOf bs (ix .faces) t v picks) (ix .marks) (ix .vecs)) (cleared m)) (W .set)
+      ∙ ap (λ (v : ℕ). searched (foundOf (g .n) (g .mode) k sk (queryOf bs (ix .faces) t (setWords (g .cap)) v) (ix .marks) (ix .vecs)) (cleared m)) p in
       rw (eq-eqb shape 0 z, le-leb k 256 h, f) q′

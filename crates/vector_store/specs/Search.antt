@@ -1,7 +1,7 @@
 -- What a search refuses, what it answers, and what it leaves in the work memories (01, "Refusal numbers" and "Store and search").
 use Prim.Native.Nat.{ℕ, _*_, _≤_}
 use mathlib.Core.Path.{_≡_}
-use mathlib.Core.Bool.{Bool}
+use mathlib.Core.Bool.{Bool, true}
 use mathlib.Core.List.{List}
 use lib.Dec.{leb, eqb}
 use lib.Ieee.{Float}
@@ -19,7 +19,7 @@ use Rattle.result.specs.declared.Fed.{Fed}
 use Rattle.vector.specs.Finite.{allFinite}
 use Rattle.faces.specs.Slots.{picksOf}
 use Rattle.backend_memory.specs.Ranking.{rankOf}
-use Rattle.candidates.specs.Gathering.{Lent, lent, targetFinite, layersOf, droppedOf}
+use Rattle.candidates.specs.Gathering.{Query, queryOf, targetFinite, layersOf, droppedOf}
 use Rattle.vector_store.specs.declared.Nearest.{Nearest}
 
 -- ---- the answer
@@ -42,7 +42,7 @@ unfoldable pub topRankOf : ℕ → ℕ → ℕ → ℕ → ℕ → List ℕ → 
 topRankOf n mode k sk w ls ms vs t dropped = rankedBy mode k w ls ms vs t dropped (topOf n w ls sk)
 
 -- 7 if an entry of any projection is not finite, else what is chosen of the layers that the bases' unions make
-unfoldable pub foundOf : ℕ → ℕ → ℕ → ℕ → Lent → List ℕ → List ℕ → Nearest
+unfoldable pub foundOf : ℕ → ℕ → ℕ → ℕ → Query → List ℕ → List ℕ → Nearest
 foundOf n mode k sk q ms vs =
     pick (targetFinite q n)
     (topRankOf n mode k sk (q .w) (layersOf n q) ms vs (q .target) (droppedOf n q))
@@ -76,8 +76,8 @@ unfoldable pub workOk : ℕ → ℕ → ℕ → ℕ → ℕ → ℕ → ℕ → 
 workOk d n cap lt lw ll ls = eqb lt d and eqb lw d and eqb ll (n * setWords cap) and eqb ls (setWords cap)
 
 -- 1 for the geometry, then 2 for the length of bases, face sets, marks, vectors, target, work, layers or set
-unfoldable pub shapeRefusal : Geo → ℕ → ℕ → ℕ → ℕ → ℕ → ℕ → ℕ → ℕ → ℕ
-shapeRefusal g lb lf lm lv lt lw ll ls =
+unfoldable pub searchShape : Geo → ℕ → ℕ → ℕ → ℕ → ℕ → ℕ → ℕ → ℕ → ℕ
+searchShape g lb lf lm lv lt lw ll ls =
     refuse 1 (geoOk (g .d) (g .n) (g .cap) (g .mode))
     (refuse 2 (ownOk (g .d) (g .n) (g .cap) (g .mode) lf lm lv)
     (refuse 2 (basesOk (g .d) (g .n) lb)
@@ -86,16 +86,31 @@ shapeRefusal g lb lf lm lv lt lw ll ls =
 -- 1, 2, 4 and 5 in their order, or 0
 unfoldable pub searchRefusal : Geo → List Float → Ix → List Float → ℕ → Work → ℕ
 searchRefusal g bs ix t k m =
-    let shape = shapeRefusal g (length bs) (length (ix .faces)) (length (ix .marks)) (length (ix .vecs)) (length t) (length (m .work)) (length (m .layers)) (length (m .set)) in
+    let shape = searchShape g (length bs) (length (ix .faces)) (length (ix .marks)) (length (ix .vecs)) (length t) (length (m .work)) (length (m .layers)) (length (m .set)) in
     pick (eqb shape 0) (refuse 4 (leb k 256) (refuse 5 (allFinite t) 0)) shape
+
+-- what the whole call goes by: the picks are the spill + 1 that it asks, at most d
+abbrev pub searchedBy : Geo → List Float → Ix → List Float → ℕ → Query
+searchedBy g bs ix t spill = queryOf bs (ix .faces) t (setWords (g .cap)) (picksOf (g .d) spill)
 
 -- refusals 1 to 5 change nothing; past them the work memories are all zeros, whatever the answer
 unfoldable pub searchOf : Geo → List Float → Ix → List Float → ℕ → ℕ → ℕ → Work → Searched
 searchOf g bs ix t k sk spill m =
     let num = searchRefusal g bs ix t k m in
     pick (eqb num 0)
-    (searched (foundOf (g .n) (g .mode) k sk (lent bs (ix .faces) t (setWords (g .cap)) (picksOf (g .d) spill)) (ix .marks) (ix .vecs)) (cleared m))
+    (searched (foundOf (g .n) (g .mode) k sk (searchedBy g bs ix t spill) (ix .marks) (ix .vecs)) (cleared m))
     (searched (refused num) m)
+
+-- ---- an accepted search
+
+-- an answer that is not a refusal: every projection was finite, layer `at` was chosen, and its ids were ranked
+pub record AcceptedSearch (n mode k sk : ℕ) (q : Query) (ms vs : List ℕ) (r : Nearest) : Type 0 where
+  pub finite : targetFinite q n ≡ true
+  pub at : ℕ
+  pub chosen : topOf n (q .w) (layersOf n q) sk ≡ Layer at
+  pub good : rankOf mode k (layer (q .w) (layersOf n q) at) ms vs (q .target) .refusal ≡ 0
+  pub ranked : r .set ≡ rankOf mode k (layer (q .w) (layersOf n q) at) ms vs (q .target) .set
+  pub dropped : r .dropped ≡ 0
 
 -- ---- what the inner calls ask of lengths
 

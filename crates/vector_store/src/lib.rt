@@ -5,8 +5,9 @@ ghost use lib.ListN.{length};
 ghost use Rattle.paper.specs.Geometry.{geo};
 ghost use Rattle.index_memory.specs.Memory.{ixOf};
 ghost use Rattle.backend_memory.specs.Scan.{scanOf};
-ghost use Rattle.candidates.specs.Gathering.{lent};
-ghost use Rattle.vector_store.specs.Search.{refused, shown, topRankOf, foundOf, works, searched, cleared, workOk, shapeRefusal, searchOf, TopArgs, FindArgs};
+ghost use Rattle.candidates.specs.Gathering.{queryOf};
+ghost use Rattle.vector_store.specs.Search.{refused, shown, topRankOf, foundOf, works, searched, cleared, workOk, searchShape, searchOf, TopArgs, FindArgs};
+ghost use Rattle.vector_store.specs.Laws.{Laws};
 use counting_bitmap::Top;
 use result::Fed;
 use result::ResultSet;
@@ -85,7 +86,7 @@ fn shape_refusal(
     layers: usize,
     set: usize,
 ) -> u32
-    ensures { λ r. ⌜ r ≡ shapeRefusal (geo d n cap mode) bases faces marks vectors target work layers set ⌝ }
+    ensures { λ r. ⌜ r ≡ searchShape (geo d n cap mode) bases faces marks vectors target work layers set ⌝ }
 {
     if !paper::geometry_ok(d, n, cap, mode) {
         return paper::WRONG_GEOMETRY;
@@ -148,7 +149,7 @@ fn find_nearest_internal(
     picks: usize,
 ) -> Nearest
     requires { ⌜ FindArgs n mode k (length (now bases)) (length (now faces)) (length (now marks)) (length (now vectors)) (length (now target)) (length (now work)) (length (now layers)) (length (now set)) ⌝ }
-    ensures { λ r. ⌜ r ≡ foundOf n mode k «search_k» (lent (now (bases .entry)) (now (faces .entry)) (now (target .entry)) (length (now (set .entry))) picks) (now (marks .entry)) (now (vectors .entry)) ⌝ }
+    ensures { λ r. ⌜ r ≡ foundOf n mode k «search_k» (queryOf (now (bases .entry)) (now (faces .entry)) (now (target .entry)) (length (now (set .entry))) picks) (now (marks .entry)) (now (vectors .entry)) ⌝ }
 {
     let w = set.len();
     let gathered = candidates::inner::gather(bases, faces, target, work, layers, set, n, picks);
@@ -187,7 +188,7 @@ fn find_and_clear(
 ) -> Nearest
     requires { ⌜ FindArgs n mode k (length (now bases)) (length (now faces)) (length (now marks)) (length (now vectors)) (length (now target)) (length (now work)) (length (now layers)) (length (now set)) ⌝ }
     ensures { λ r. ⌜ searched r (works (now (work .exit)) (now (layers .exit)) (now (set .exit)))
-        ≡ searched (foundOf n mode k «search_k» (lent (now (bases .entry)) (now (faces .entry)) (now (target .entry)) (length (now (set .entry))) picks) (now (marks .entry)) (now (vectors .entry)))
+        ≡ searched (foundOf n mode k «search_k» (queryOf (now (bases .entry)) (now (faces .entry)) (now (target .entry)) (length (now (set .entry))) picks) (now (marks .entry)) (now (vectors .entry)))
         (cleared (works (now (work .entry)) (now (layers .entry)) (now (set .entry)))) ⌝ }
 {
     let nearest = find_nearest_internal(
@@ -293,3 +294,8 @@ pub fn full_table_scan(
 {
     backend_memory::full_table_scan(marks, vectors, target, d, n, cap, mode, k)
 }
+
+// The laws of this crate, claimed: specs/Laws.antt says each of them.
+pub fn laws()
+    ensures { λ _. ⌜ Laws ⌝ }
+{}

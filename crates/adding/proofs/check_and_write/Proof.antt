@@ -3,7 +3,7 @@ use Prim.Native.Nat.{ℕ, _*_, _<_}
 use mathlib.Core.Path.{_∙_, sym, refl, subst}
 use Rattle.paper.specs.Geometry.{geo}
 use Rattle.adding.proofs.Cases.{late-six, late-seven, late-none, was-finite, was-not, written-is}
-use Rattle.adding.proofs.Laws.{face-slot-low}
+use Rattle.adding.proofs.Accepted.{face-slot-low}
 use borrow.Author.Needs.{needs}
 use Rattle.adding.proofs.check_and_write.Statement.{statement}
 use Rattle.adding.proofs.check_and_write.Tie as tie
@@ -59,7 +59,7 @@ returns-3 : tie.Need-returns-3
 returns-3 c =
     let a = c .before .before .before .before .before .before .before .before .before .before .before .before .before .before .before .before .before .before .before .before .before .before .before .before .before .before .before .before .before .before .before .args in (
       late-none (a .d) (a .n) (a .bases .now) (a .v .now) (sym (c .before .before .before .before .before .before .before .before .before .before .before .before .before .before .before .before .before .before .before .before .before .before .before .normalize-into .ensures .0) ∙ c .before .before .before .before .before .before .before .before .before .before .before .before .before .before .before .before .before .before .before .before .if1 .left) (was-finite _ _ (c .before .before .before .before .before .before .before .before .before .before .before .before .before .before .before .before .before .before .slots-of .ensures .answer) (c .before .before .before .before .before .before .before .before .before .before .before .before .before .before .if2 .left)),
-      c .before .before .before .before .before .before .before .before .write .ensures ∙ written-is (geo (a .d) (a .n) (a .cap) (a .mode)) (a .bases .now) (a .id) (a .v .now) _ (c .before .before .before .before .before .before .before .before .before .before .before .before .before .before .before .before .before .before .slots-of .result .slots) (c .before .before .before .before .before .before .before .before .before .before .before .before .before .before .before .before .before .before .slots-of .ensures .slots (c .before .before .before .before .before .before .before .before .before .before .before .before .before .before .if2 .left)),
+      written-is (geo (a .d) (a .n) (a .cap) (a .mode)) (a .bases .now) (a .id) (a .v .now) _ _ (c .before .before .before .before .before .before .before .before .before .before .before .before .before .before .before .before .before .before .slots-of .result .slots) (c .before .before .before .before .before .before .before .before .write .ensures) (c .before .before .before .before .before .before .before .before .before .before .before .before .before .before .before .before .before .before .slots-of .ensures .slots (c .before .before .before .before .before .before .before .before .before .before .before .before .before .before .if2 .left)),
     )
 
 pub check-and-write-spec : {M : Type 1} → statement M

@@ -1,6 +1,5 @@
 -- `adding::write` meets its contract. Assumes nothing.
 use mathlib.Core.Path.{refl}
-use Rattle.adding.specs.Adding.{writtenIx}
 use borrow.Author.Needs.{needs}
 use Rattle.adding.proofs.write.Statement.{statement}
 use Rattle.adding.proofs.write.Tie as tie
@@ -27,7 +26,6 @@ same-length-4 : tie.Need-same-length-4
 same-length-4 c = search needs
 
 returns : tie.Need-returns
-unfolding writtenIx
 returns c = rw (c .before .before .before .before .before .before .before .before .before .before .before .before .before .add-to-bitmaps .ensures, c .before .before .before .before .before .before .before .before .before .add .ensures, c .before .before .before .before .put-vector .ensures) refl
 
 pub write-spec : {M : Type 1} → statement M

@@ -3,7 +3,7 @@ use mathlib.Core.Path.{_≡_, _∙_, ap}
 use lib.ListN.{length}
 use Rattle.index_memory.specs.Memory.{floatZeros}
 use Rattle.bitmaps.specs.Words.{empty}
-use Rattle.candidates.specs.Gathering.{lent}
+use Rattle.candidates.specs.Gathering.{queryOf}
 use Rattle.vector_store.specs.Search.{foundOf, works, searched}
 use borrow.Author.Needs.{needs}
 use Rattle.vector_store.proofs.find_and_clear.Statement.{statement}
@@ -33,7 +33,7 @@ same-length-3 c = search needs
 returns : tie.Need-returns
 returns c =
     let a = c .before .before .before .before .before .before .before .before .before .before .before .before .before .before .before .before .before .before .before .before .before .before .before .before .before .before .before .before .before .before .args in
-    let p : c .before .before .before .before .before .before .before .before .before .before .before .before .before .before .before .before .before .before .find-nearest-internal .result ≡ foundOf (a .n) (a .mode) (a .k) (a .search-k) (lent (a .bases .now) (a .faces .now) (a .target .now) (length (a .set .now)) (a .picks)) (a .marks .now) (a .vectors .now) = c .before .before .before .before .before .before .before .before .before .before .before .before .before .before .before .before .before .before .find-nearest-internal .ensures in
+    let p : c .before .before .before .before .before .before .before .before .before .before .before .before .before .before .before .before .before .before .find-nearest-internal .result ≡ foundOf (a .n) (a .mode) (a .k) (a .search-k) (queryOf (a .bases .now) (a .faces .now) (a .target .now) (length (a .set .now)) (a .picks)) (a .marks .now) (a .vectors .now) = c .before .before .before .before .before .before .before .before .before .before .before .before .before .before .before .before .before .before .find-nearest-internal .ensures in
     let w : c .before .before .before .before .before .before .before .before .before .before .clear-floats .last .0 ≡ floatZeros (length (a .work .now)) = c .before .before .before .before .before .before .before .before .before .before .clear-floats .ensures ∙ ap floatZeros (c .before .before .before .before .before .before .before .before .before .before .before .before .before .before .before .before .before .before .find-nearest-internal .kept .1 .1 .1 .1 .0) in
     let l : c .before .before .before .before .before .before .clear .last .0 ≡ empty (length (a .layers .now)) = c .before .before .before .before .before .before .clear .ensures ∙ ap empty (c .before .before .before .before .before .before .before .before .before .before .before .before .before .before .before .before .before .before .find-nearest-internal .kept .1 .1 .1 .1 .1 .0) in
     let s : c .before .before .clear2 .last .0 ≡ empty (length (a .set .now)) = c .before .before .clear2 .ensures ∙ ap empty (c .before .before .before .before .before .before .before .before .before .before .before .before .before .before .before .before .before .before .find-nearest-internal .kept .1 .1 .1 .1 .1 .1 .0) in

@@ -10,7 +10,7 @@ use Rattle.index_memory.proofs.Places.{part-end, part-long}
 use Rattle.counting_bitmap.specs.Layers.{empty, mergedAll, droppedAll}
 use Rattle.basis.specs.Bases.{projectionsFinite}
 use Rattle.basis.proofs.Bases.{finite-none, finite-more, finite-no}
-use Rattle.candidates.specs.Gathering.{Lent, lent, unionsFrom, layersOf, droppedOf}
+use Rattle.candidates.specs.Gathering.{Query, queryOf, unionsFrom, layersOf, droppedOf}
 use Rattle.candidates.proofs.Bases.{times-by, was-finite, was-not, one-answer, one-layers, one-dropped, merged-more, dropped-more, gather-stopped, gather-ended}
 use Rattle.candidates.proofs.inner.gather.Statement.{statement}
 use Rattle.candidates.proofs.inner.gather.Tie as tie
@@ -20,8 +20,8 @@ Inv-loop bases faces target work₀ layers₀ set₀ n picks square block total�
     (b ≤ n) × (p ≡ b * (length target * length target)) × (f ≡ b * (2 * length target * length set₀))
     × (length work ≡ length work₀) × (length layers ≡ n * length set₀) × (length set ≡ length set₀) × (total ≤ 65536 * b)
     × (projectionsFinite (length target) bases target b ≡ true)
-    × (mergedAll n (length set₀) layers (unionsFrom (lent bases faces target (length set₀) picks) (n - b) b) ≡ layersOf n (lent bases faces target (length set₀) picks))
-    × (total + droppedAll n (length set₀) layers (unionsFrom (lent bases faces target (length set₀) picks) (n - b) b) ≡ droppedOf n (lent bases faces target (length set₀) picks))
+    × (mergedAll n (length set₀) layers (unionsFrom (queryOf bases faces target (length set₀) picks) (n - b) b) ≡ layersOf n (queryOf bases faces target (length set₀) picks))
+    × (total + droppedAll n (length set₀) layers (unionsFrom (queryOf bases faces target (length set₀) picks) (n - b) b) ≡ droppedOf n (queryOf bases faces target (length set₀) picks))
 
 abbrev μ-loop : tie.MeasureT-loop
 μ-loop bases faces target work₀ layers₀ set₀ n picks square block total₀ b₀ p₀ f₀ work layers set total b p f = n - b
@@ -113,7 +113,7 @@ returns c =
     let a = c .before .before .before .before .before .before .before .before .before .before .before .before .before .before .before .before .before .before .before .before .before .before .before .before .before .before .args in
     let l = c .before .before .before .before .before .before .before .before .before .before .before .before .before .before .before .loop in
     let g = c .before .before .before .before .before .before .before .before .gather-basis in
-    let q : Lent = lent (a .bases .now) (a .faces .now) (a .target .now) (length (a .set .now)) (a .picks) in
+    let q : Query = queryOf (a .bases .now) (a .faces .now) (a .target .now) (length (a .set .now)) (a .picks) in
     let ans = one-answer q (a .n) (l .b) (l .p) (l .f) (length (l .set)) (l .layers) (g .last .1 .1 .1 .1 .0) (g .result) (l .inv .1) (l .inv .2) (l .inv .5) (g .ensures) in
     gather-stopped q (a .n) (g .last .1 .1 .1 .1 .0) (finite-no _ _ _ (a .n) (l .b) (c .before .before .before .before .before .before .before .before .before .before .before .before .before .before .loop-test .taken) (was-not _ _ ans (c .if1 .taken)))
 
@@ -137,7 +137,7 @@ loop-again c =
     let a = c .before .before .before .before .before .before .before .before .before .before .before .before .before .before .before .before .before .before .before .before .before .before .before .before .before .before .before .args in
     let l = c .before .before .before .before .before .before .before .before .before .before .before .before .before .before .before .before .loop in
     let g = c .before .before .before .before .before .before .before .before .before .gather-basis in
-    let q : Lent = lent (a .bases .now) (a .faces .now) (a .target .now) (length (a .set .now)) (a .picks) in
+    let q : Query = queryOf (a .bases .now) (a .faces .now) (a .target .now) (length (a .set .now)) (a .picks) in
     let ls′ = g .last .1 .1 .1 .1 .0 in
     let ok = c .before .if1 .left in
     let ans = one-answer q (a .n) (l .b) (l .p) (l .f) (length (l .set)) (l .layers) ls′ (g .result) (l .inv .1) (l .inv .2) (l .inv .5) (g .ensures) in
@@ -171,7 +171,7 @@ returns-2 : tie.Need-returns-2 Inv-loop μ-loop
 returns-2 c =
     let a = c .before .before .before .before .before .before .before .before .before .before .before .before .args in
     let l = c .before .loop in
-    gather-ended (lent (a .bases .now) (a .faces .now) (a .target .now) (length (a .set .now)) (a .picks)) (a .n) (l .b) (l .layers) (l .total) (c .loop-test .left) (l .inv .0) (l .inv .7) (l .inv .8) (l .inv .9)
+    gather-ended (queryOf (a .bases .now) (a .faces .now) (a .target .now) (length (a .set .now)) (a .picks)) (a .n) (l .b) (l .layers) (l .total) (c .loop-test .left) (l .inv .0) (l .inv .7) (l .inv .8) (l .inv .9)
 
 pub gather-spec : {M : Type 1} → statement M
 gather-spec =

@@ -1,5 +1,5 @@
 -- `order_free::inner::two_orders` meets its contract, by the contracts of the calls and the theorems. Assumes nothing.
-use mathlib.Core.Path.{_∙_, sym, refl}
+use mathlib.Core.Path.{refl}
 use Rattle.paper.specs.Geometry.{geo}
 use Rattle.order_free.specs.Order.{addition}
 use Rattle.order_free.proofs.Reached.{either-order, fill-again}
@@ -38,7 +38,7 @@ returns : tie.Need-returns
 returns c =
     let a = c .before .before .before .before .before .before .before .before .before .before .before .before .before .before .before .before .before .before .before .before .before .before .before .before .before .before .before .before .before .before .before .before .before .before .before .before .args in
     let g = geo (a .d) (a .n) (a .cap) (a .mode) in
-    c .before .before .before .before .before .before .before .before .before .before .before .before .before .before .before .before .before .before .before .before .before .fill-two .ensures ∙ either-order g (a .bases .now) (addition (a .i) (a .v .now)) (addition (a .j) (a .u .now)) (c .before .before .before .before .before .before .before .before .before .before .before .before .before .before .before .before .before .before .before .before .before .before .before .before .before .before .before .before .before .before .before .before .before .before .before .before .pre .apart) ∙ sym (c .before .before .before .before .before .before .before .before .fill-two2 .ensures)
+    either-order g (a .bases .now) (addition (a .i) (a .v .now)) (addition (a .j) (a .u .now)) (c .before .before .before .before .before .before .before .before .before .before .before .before .before .before .before .before .before .before .before .before .before .before .before .before .before .before .before .before .before .before .before .before .before .before .before .before .pre .apart) _ _ (c .before .before .before .before .before .before .before .before .before .before .before .before .before .before .before .before .before .before .before .before .before .fill-two .ensures) (c .before .before .before .before .before .before .before .before .fill-two2 .ensures)
 
 pub two-orders-spec : {M : Type 1} → statement M
 two-orders-spec =

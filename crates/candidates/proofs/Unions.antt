@@ -1,11 +1,16 @@
 -- What the candidates of a search are: which ids a basis's union has, which ids a layer has, and that nothing falls off the last layer. Assumes nothing.
-use Prim.Native.Nat.{ℕ, zero, suc, _-_, _*_, _<_, _≤_, max, min}
+use Prim.Native.Nat.{ℕ, zero, suc, _+_, _-_, _*_, _/_, _%_, _<_, _≤_, max, min}
 use native.Mathlib.Omega.{arith}
+use native.Mathlib.Nat.{mul-assoc, add-mul, add-assoc}
 use mathlib.Core.Path.{_≡_, refl, sym, ap, _∙_}
 use mathlib.Core.List.{List, [], _∷_}
+use lib.Arith.{digits-lt}
 use lib.Ieee.{Float}
-use lib.ListN.{length, take, length-replicate}
-use Rattle.index_memory.proofs.Places.{part-long, part-is}
+use lib.ListN.{length, take, drop, length-replicate}
+use lib.Seq.{getD-take, getD-drop}
+use Rattle.paper.specs.Geometry.{setWords}
+use Rattle.index_memory.specs.Memory.{faceBit}
+use Rattle.index_memory.proofs.Places.{part-long, part-is, face-bit-word, face-bit-digit}
 use Rattle.bitmaps.specs.Words.{has, union}
 use Rattle.bitmaps.proofs.Zip.{byWord-length}
 use Rattle.bitmaps.proofs.Digits.{has-union}
@@ -15,7 +20,29 @@ use Rattle.counting_bitmap.proofs.Counting.{counts}
 use Rattle.counting_bitmap.proofs.Dropped.{drops-nothing}
 use Rattle.faces.specs.Slots.{slotOf, pickedOf, slots, picksOf}
 use Rattle.faces.proofs.Slots.{slot-low, length-picked, slots-begin, picks-more}
-use Rattle.candidates.specs.Gathering.{faceSet, joined, unionOf, Lent, facesAt, targetOn, unionAt, unionsFrom, layersOf, droppedOf}
+use Rattle.candidates.specs.Gathering.{faceSet, joined, unionOf, inAny, Query, facesAt, targetOn, unionAt, unionsFrom, layersOf, droppedOf}
+
+-- ---- one address for a face set
+
+-- word k of basis b's slot, counted from the front of all face sets
+word-of : (b e slot w k : ℕ) → b * (e * w) + (slot * w + k) ≡ (b * e + slot) * w + k
+word-of b e slot w k = rw (← mul-assoc b e w, add-mul (b * e) slot w, add-assoc (b * e * w) (slot * w) k)
+
+pub face-set-has : (fs : List ℕ) (d cap b slot id : ℕ) → cap % 64 ≡ 0 → slot < 2 * d → id < cap
+    → has (faceSet (setWords cap) (facesAt fs d (setWords cap) b) slot) id ≡ has fs (faceBit d cap b slot id)
+face-set-has fs d cap b slot id e s h =
+    let w = setWords cap in
+    let l : id / 64 < w = omega arith in
+    let m : slot * w + id / 64 < 2 * d * w = digits-lt s l in
+    rw (
+      face-bit-word d cap b slot id e,
+      face-bit-digit d cap b slot id e,
+      getD-take w (drop (slot * w) (facesAt fs d w b)) (id / 64) 0 l,
+      getD-drop (slot * w) (facesAt fs d w b) (id / 64) 0,
+      getD-take (2 * d * w) (drop (b * (2 * d * w)) fs) (slot * w + id / 64) 0 m,
+      getD-drop (b * (2 * d * w)) fs (slot * w + id / 64) 0,
+      word-of b (2 * d) slot w (id / 64),
+    )
 
 -- ---- the union of a basis
 
@@ -27,11 +54,6 @@ joined-long w fs s (x ∷ xs) = joined-long w fs (union s (faceSet w fs x)) xs �
 pub union-long : (picks w : ℕ) (fs : List ℕ) (p : List Float) → length (unionOf picks w fs p) ≡ w
 unfolding unionOf
 union-long picks w fs p = joined-long w fs (empty w) (slots picks p) ∙ length-replicate w 0
-
--- 1 where one of the slots' face sets has the id
-unfoldable pub inAny : ℕ → List ℕ → List ℕ → ℕ → ℕ
-inAny w fs [] id = 0
-inAny w fs (x ∷ xs) id = max (has (faceSet w fs x) id) (inAny w fs xs id)
 
 joined-has : (m w : ℕ) (fs : List ℕ) (p : List Float) (s : List ℕ) (id : ℕ) → 1 ≤ length p → length fs ≡ 2 * length p * w → length s ≡ w
     → has (joined w fs s (slots m p)) id ≡ max (has s id) (inAny w fs (slots m p) id)
@@ -74,23 +96,23 @@ spill-grows d s t w fs p id h = union-grows (picksOf d s) (picksOf d t) w fs p i
 
 -- ---- the layers
 
-unions-sized : (q : Lent) (m b : ℕ) → Sized (q .w) (unionsFrom q m b)
+unions-sized : (q : Query) (m b : ℕ) → Sized (q .w) (unionsFrom q m b)
 unfolding unionsFrom unionAt
 unions-sized q zero b = none
 unions-sized q (suc m) b =
     more (union-long (q .picks) (q .w) (facesAt (q .faces) (length (q .target)) (q .w) b) (targetOn q b)) (unions-sized q m (suc b))
 
-unions-many : (q : Lent) (m b : ℕ) → length (unionsFrom q m b) ≡ m
+unions-many : (q : Query) (m b : ℕ) → length (unionsFrom q m b) ≡ m
 unfolding unionsFrom
 unions-many q zero b = refl
 unions-many q (suc m) b = ap suc (unions-many q m (suc b))
 
 -- layer j of a search holds exactly the ids that are in more than j of the bases' unions
-pub layer-counts : (n : ℕ) (q : Lent) (id j : ℕ) → j < n → has (layer (q .w) (layersOf n q) j) id ≡ min 1 (times (unionsFrom q n 0) id - j)
+pub layer-counts : (n : ℕ) (q : Query) (id j : ℕ) → j < n → has (layer (q .w) (layersOf n q) j) id ≡ min 1 (times (unionsFrom q n 0) id - j)
 unfolding layersOf
 layer-counts n q id j h = counts n (q .w) (unionsFrom q n 0) (unions-sized q n 0) id j h
 
 -- as many unions as layers: a search drops nothing
-pub search-drops-none : (n : ℕ) (q : Lent) → droppedOf n q ≡ 0
+pub search-drops-none : (n : ℕ) (q : Query) → droppedOf n q ≡ 0
 unfolding droppedOf
 search-drops-none n q = drops-nothing n (q .w) (unionsFrom q n 0) (omega (arith, unions-many q n 0)) (unions-sized q n 0)

@@ -1,12 +1,11 @@
--- `merging::new_vector_store` meets its contract. Assumes nothing.
+-- `index_memory::new_vector_store` meets its contract. Assumes nothing.
 use mathlib.Core.Path.{_∙_, sym}
 use Rattle.paper.specs.Geometry.{geo}
 use Rattle.index_memory.specs.Memory.{ixOf}
-use Rattle.index_memory.proofs.Lengths.{own-none, empty-is}
-use Rattle.merging.proofs.Cases.{empty-refused, empty-done}
+use Rattle.index_memory.proofs.Lengths.{own-none, empty-is, empty-refused, empty-done}
 use borrow.Author.Needs.{needs}
-use Rattle.merging.proofs.new_vector_store.Statement.{statement}
-use Rattle.merging.proofs.new_vector_store.Tie as tie
+use Rattle.index_memory.proofs.new_vector_store.Statement.{statement}
+use Rattle.index_memory.proofs.new_vector_store.Tie as tie
 
 own-refusal-requires : tie.Need-own-refusal-requires
 own-refusal-requires c κs = search needs

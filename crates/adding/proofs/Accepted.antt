@@ -1,5 +1,5 @@
--- Laws for the crates above. Assumes nothing.
-use Prim.Native.Nat.{ℕ, zero, suc, _+_, _*_, _/_, _%_, _<_, _≤_}
+-- What an accepted addition passed, and that its stored vector reads back. Assumes nothing.
+use Prim.Native.Nat.{ℕ, zero, suc, _+_, _*_, _<_, _≤_}
 use mathlib.Core.Path.{_≡_, refl, sym, ap, subst, _∙_}
 use mathlib.Core.List.{List, [], _∷_, map}
 use mathlib.Core.Bool.{Bool, true, false}
@@ -9,13 +9,12 @@ use borrow.Author.Tests.{eqb-true, eqb-false, eq-eqb}
 use lib.Dec.{T, eqb}
 use lib.Ieee.{Float, binary32, fits}
 use lib.Ieee.Fits.{nan-fits, div-fits}
-use lib.ListN.{length, take, drop}
-use lib.Seq.{sets, getD-take, getD-drop}
+use lib.ListN.{length}
+use lib.Seq.{sets}
 use Rattle.paper.specs.Choice.{pick, refuse}
-use Rattle.paper.specs.Geometry.{Geo, compSize, setWords}
-use Rattle.index_memory.specs.Memory.{Ix, faceBit, slotBytes, slotAt}
-use Rattle.index_memory.proofs.Places.{place, face-bit-word, face-bit-digit}
-use Rattle.bitmaps.specs.Words.{has}
+use Rattle.paper.specs.Geometry.{Geo, compSize}
+use Rattle.index_memory.specs.Memory.{Ix, slotBytes, slotAt}
+use Rattle.index_memory.proofs.Places.{place}
 use Rattle.vector.specs.Finite.{allFinite}
 use Rattle.vector.specs.Norm.{normNumber, normOf, normalized}
 use Rattle.vector.proofs.Vectors.{length-normalized}
@@ -25,7 +24,7 @@ use Rattle.faces.proofs.Slots.{slot-low}
 use Rattle.quantization.specs.Stored.{lowerBytes, components, restored, Fit}
 use Rattle.quantization.proofs.Stored.{components-back}
 use Rattle.basis.specs.Bases.{basisAt, projectionAt, projectionsFinite}
-use Rattle.adding.specs.Adding.{faceSlot, withVector, addedIx, shapeRefusal, lateRefusal, addRefusal, addOf, Shaped}
+use Rattle.adding.specs.Adding.{faceSlot, withVector, addedIx, addShape, lateRefusal, addRefusal, addOf, Shaped}
 use Rattle.adding.proofs.Shape.{shaped}
 use Rattle.adding.proofs.Turns.{length-lowered}
 use Rattle.adding.proofs.Cases.{refusal-split}
@@ -53,13 +52,14 @@ first-none s rest e = go (eqb s 0) refl e
     go true p e = (eqb-true s 0 p, e)
     go false p e = absurd (eqb-false s 0 p e)
 
-norm-none : (a b c : Bool) → refuse 5 a (refuse 6 b (refuse 7 c 0)) ≡ 0 → b ≡ true
-norm-none true true c e = refl
-norm-none true false c e = let no : ⊥ = omega arith in absurd no
-norm-none false b c e = let no : ⊥ = omega arith in absurd no
+late-passed : (a b c : Bool) → refuse 5 a (refuse 6 b (refuse 7 c 0)) ≡ 0 → (b ≡ true) × (c ≡ true)
+late-passed true true true e = (refl, refl)
+late-passed true true false e = let no : ⊥ = omega arith in absurd no
+late-passed true false c e = let no : ⊥ = omega arith in absurd no
+late-passed false b c e = let no : ⊥ = omega arith in absurd no
 
 module _ (g : Geo) (bs : List Float) (id : ℕ) (v : List Float) (ix : Ix) (work : List Float) (e : addRefusal g bs id v ix work ≡ 0) where
-  split : (shapeRefusal g id (length bs) (length (ix .faces)) (length (ix .marks)) (length (ix .vecs)) (length work) (length v) ≡ 0) × (refuse 5 (allFinite v) (lateRefusal (g .d) (g .n) bs v) ≡ 0)
+  split : (addShape g id (length bs) (length (ix .faces)) (length (ix .marks)) (length (ix .vecs)) (length work) (length v) ≡ 0) × (refuse 5 (allFinite v) (lateRefusal (g .d) (g .n) bs v) ≡ 0)
   split = first-none _ _ (sym (refusal-split g bs id v ix work) ∙ e)
 
   pub accepted-shape : Shaped g id (length bs) (length (ix .faces)) (length (ix .marks)) (length (ix .vecs)) (length work) (length v)
@@ -67,7 +67,11 @@ module _ (g : Geo) (bs : List Float) (id : ℕ) (v : List Float) (ix : Ix) (work
 
   pub accepted-norm : normNumber v ≡ 0
   unfolding lateRefusal
-  accepted-norm = eqb-true _ _ (norm-none (allFinite v) (eqb (normNumber v) 0) (projectionsFinite (g .d) bs v (g .n)) (split .1))
+  accepted-norm = eqb-true _ _ (late-passed (allFinite v) (eqb (normNumber v) 0) (projectionsFinite (g .d) bs v (g .n)) (split .1) .0)
+
+  pub accepted-finite : projectionsFinite (g .d) bs v (g .n) ≡ true
+  unfolding lateRefusal
+  accepted-finite = late-passed (allFinite v) (eqb (normNumber v) 0) (projectionsFinite (g .d) bs v (g .n)) (split .1) .1
 
 -- every component of a normalised vector is a binary32
 fit-map : (f : Float → Float) → ((x : Float) → T (fits binary32 (f x))) → (xs : List Float) → Fit (map f xs)
@@ -80,7 +84,7 @@ unfolding normalized
 fit-normalized v e = rw (eq-eqb (normNumber v) 0 e) (fit-map _ (λ x. div-fits binary32 x (normOf v)) v)
 
 -- THE STORED VECTOR: after an accepted addition the id's slot reads back as the components of the normalised vector, each as the mode keeps it
-pub stored-back : (g : Geo) (bs : List Float) (id : ℕ) (v : List Float) (ix : Ix) (work : List Float) → addRefusal g bs id v ix work ≡ 0
+pub stored-back : (g : Geo) (bs : List Float) (id : ℕ) (v : List Float) (ix : Ix) (work : List Float) → addOf g bs id v ix work .answer ≡ 0
     → components (g .mode) (addOf g bs id v ix work .ix .vecs) (slotAt (g .d) (g .mode) id) (g .d) ≡ map (restored (g .mode)) (normalized v)
 unfolding addOf addedIx withVector
 stored-back g bs id v ix work e =
@@ -90,11 +94,3 @@ stored-back g bs id v ix work e =
     rw (l, s .vectors, mul-comm (g .d) (compSize (g .mode))) (place id (g .cap) (slotBytes (g .d) (g .mode)) (s .id-low)) in
     rw (e) (ap (λ (k : ℕ). components (g .mode) (sets (ix .vecs) (slotAt (g .d) (g .mode) id) (lowerBytes (g .mode) (normalized v))) (slotAt (g .d) (g .mode) id) k) (sym l)
     ∙ components-back (g .mode) (ix .vecs) (slotAt (g .d) (g .mode) id) (normalized v) (fit-normalized v (accepted-norm g bs id v ix work e)) room)
-
--- ---- a face set as a search reads it: the part of W words that begins at word (b * 2d + slot) * W
-
-pub face-set-has : (d cap b slot i : ℕ) (fs : List ℕ) → cap % 64 ≡ 0 → i < cap
-    → has (take (setWords cap) (drop ((b * (2 * d) + slot) * setWords cap) fs)) i ≡ has fs (faceBit d cap b slot i)
-face-set-has d cap b slot i fs e h =
-    let l : i / 64 < setWords cap = omega arith in
-    rw (face-bit-word d cap b slot i e, face-bit-digit d cap b slot i e, getD-take (setWords cap) (drop ((b * (2 * d) + slot) * setWords cap) fs) (i / 64) 0 l, getD-drop ((b * (2 * d) + slot) * setWords cap) fs (i / 64) 0)

@@ -1,8 +1,9 @@
 //! Whole index runs, and merging against replaying.
 
 use crate::inputs::{self, pick, Ask};
-use crate::port::{Geometry, Lent, Port, Work};
+use crate::port::{Geometry, Lent, Port, Work, SEARCH_TOLD};
 use crate::results::{holds, list_shown, out, shown, untouched};
+use crate::stub;
 use crate::tally::Tally;
 use oracle::calls;
 use oracle::draw::Draw;
@@ -124,12 +125,18 @@ fn held(lent: &Lent, rust: &dyn Index, g: Geometry) -> bool {
     lent.faces == m.faces && lent.marks == m.marks && lent.vectors == m.vectors
 }
 
+/// A pipe carries the whole index there and back for each addition: of a run of more additions than these about so many are asked.
+const PIPED_ADDITIONS: usize = 120;
+
 struct Player<'a> {
     port: &'a Port,
     run: &'a Run,
     rust: Box<dyn Index>,
     lent: Lent,
     work: Work,
+    /// Every so manieth addition is asked of the port. The stub makes the others, and they aren't counted.
+    every: usize,
+    added: usize,
 }
 
 impl<'a> Player<'a> {
@@ -137,7 +144,7 @@ impl<'a> Player<'a> {
         let mut lent = lent(port, run.g);
         port.new_index(&mut lent, run.g);
         let rust = index::run(run.g.d, run.g.n, run.g.mode, &run.bases).unwrap();
-        Self { port, run, rust, lent, work: work(port, run.g) }
+        Self { port, run, rust, lent, work: work(port, run.g), every: 1, added: 0 }
     }
 
     fn step(&mut self, at: usize, step: &Step, t: &mut Tallies) {
@@ -147,16 +154,22 @@ impl<'a> Player<'a> {
         match step {
             Step::Add { id, vector } => {
                 let due = run.due(vector);
-                let number = self.port.add_vector(&run.bases, &mut self.lent, &mut self.work.floats, vector, g, *id);
+                let asked = self.added % self.every == 0;
+                self.added += 1;
+                let mut add = |port: &Port| port.add_vector(&run.bases, &mut self.lent, &mut self.work.floats, vector, g, *id);
+                let number = if asked { add(self.port) } else { stub::clean(|| add(&Port::stub())) };
                 if due == 0 {
                     self.rust.add(*id as u64, vector).unwrap();
+                }
+                if !asked {
+                    return;
                 }
                 t.adds.refused += (due != 0) as u64;
                 t.adds.note(number == due, || tell(format!("port {number}, due {due}")));
                 t.work.note(left_right(&self.work.floats, &[], due), || tell("work memory".into()));
             }
             Step::Find { target, k, search_k, spill } => {
-                let mut ours = out(*k, 3);
+                let mut ours = out(*k, SEARCH_TOLD);
                 let number = self.port.find_nearest(&run.bases, &self.lent, &mut self.work, target, &mut ours, g, *k, *search_k, *spill);
                 let (due, theirs) = if !target.iter().all(|x| x.is_finite()) {
                     (5, None)
@@ -169,8 +182,8 @@ impl<'a> Player<'a> {
                     }
                 };
                 let same = match &theirs {
-                    // Each of n sets goes into n layers: nothing can fall off.
-                    Some(list) => holds(&ours, list) && ours.told[2] == 0,
+                    // What is told beyond is how many were dropped. Each of n sets goes into n layers: nothing can fall off.
+                    Some(list) => holds(&ours, list) && ours.told[2..].iter().all(|x| *x == 0),
                     None => untouched(&ours),
                 };
                 t.finds.refused += (due != 0) as u64;
@@ -204,6 +217,10 @@ impl<'a> Player<'a> {
 
 fn play(port: &Port, run: &Run, t: &mut Tallies) {
     let mut player = Player::new(port, run);
+    if port.piped() {
+        let additions = run.steps.iter().filter(|s| matches!(s, Step::Add { .. })).count();
+        player.every = additions.div_ceil(PIPED_ADDITIONS).max(1);
+    }
     for (at, step) in run.steps.iter().enumerate() {
         player.step(at, step, t);
     }

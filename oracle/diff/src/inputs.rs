@@ -13,9 +13,11 @@ pub struct Ask {
 }
 
 impl Ask {
-    /// A generator for one part of one word.
+    /// A generator for one part of one word. The sum is taken in 128 bits, so that any seed will do.
     pub fn draw(&self, word: u64, part: u64) -> Draw {
-        let mut draw = Draw::new(1 + (self.seed * 7_368_787 + word * 15_485_863 + part * 32_452_843) % (MODULUS - 1));
+        let [seed, word, part] = [self.seed, word, part].map(u128::from);
+        let start = (seed * 7_368_787 + word * 15_485_863 + part * 32_452_843) % (MODULUS - 1) as u128;
+        let mut draw = Draw::new(1 + start as u64);
         for _ in 0..4 {
             draw.next();
         }

@@ -38,8 +38,8 @@ pub fn lower(port: &Port, patterns: Patterns) -> Vec<Tally> {
     let mut t = Tally::new(patterns.title("lower"));
     for block in patterns.blocks() {
         let theirs = BF16Quantization::lower(block.iter().map(|x| f32::from_bits(*x)).collect()).unwrap();
-        for (x, theirs) in block.iter().zip(&theirs) {
-            let (ours, theirs) = (port.lower(*x), theirs.to_bits());
+        for ((x, theirs), ours) in block.iter().zip(&theirs).zip(port.lowered(&block)) {
+            let theirs = theirs.to_bits() as u32;
             t.note(ours == theirs, || format!("lower {x:08x}: port {ours:04x}, Rust {theirs:04x}"));
         }
     }
@@ -66,11 +66,12 @@ pub fn widen(port: &Port) -> Vec<Tally> {
 pub fn sqrt(port: &Port, patterns: Patterns) -> Vec<Tally> {
     let mut t = Tally::new(patterns.title("sqrt"));
     let mut nans = 0;
-    for x in patterns.blocks().flatten() {
-        let theirs = text::bits(calls::sqrt(f32::from_bits(x)));
-        let ours = port.sqrt(x);
-        nans += (theirs == 0x7fc00000) as u64;
-        t.note(ours == theirs, || format!("sqrt {x:08x}: port {ours:08x}, Rust {theirs:08x}"));
+    for block in patterns.blocks() {
+        for (x, ours) in block.iter().zip(port.roots(&block)) {
+            let theirs = text::bits(calls::sqrt(f32::from_bits(*x)));
+            nans += (theirs == 0x7fc00000) as u64;
+            t.note(ours == theirs, || format!("sqrt {x:08x}: port {ours:08x}, Rust {theirs:08x}"));
+        }
     }
     t.apart = Some(("of them NaN, as 7fc00000", nans));
     vec![t]

@@ -3,6 +3,11 @@
 
 use crate::stub;
 
+// Declared here, since the bench takes this file and stub.rs alone.
+#[allow(dead_code)]
+#[path = "through.rs"]
+pub mod through;
+
 macro_rules! calls {
     ($($name:ident($($arg:ident: $kind:ty),*) -> $answer:ty;)*) => {
         #[cfg(port)]
@@ -10,15 +15,28 @@ macro_rules! calls {
             $(fn $name($($arg: $kind),*) -> $answer;)*
         }
 
-        /// Either the linked port or the stub.
+        /// The linked port, a program that is asked through a pipe, or the stub.
         pub struct Port {
             $($name: unsafe extern "C" fn($($kind),*) -> $answer,)*
+            piped: bool,
         }
+
+        mod piped {
+            use super::through::{Argument, Question};
+            $(pub unsafe extern "C" fn $name($($arg: $kind),*) -> $answer {
+                let mut q = Question::new(stringify!($name));
+                $($arg.put(&mut q);)*
+                q.answer() as $answer
+            })*
+        }
+
+        #[allow(dead_code)]
+        pub const NAMES: &[&str] = &[$(stringify!($name)),*];
 
         impl Port {
             #[cfg(port)]
             pub fn linked() -> Option<Self> {
-                Some(Self { $($name,)* })
+                Some(Self { $($name,)* piped: false })
             }
 
             #[cfg(not(port))]
@@ -27,7 +45,13 @@ macro_rules! calls {
             }
 
             pub fn stub() -> Self {
-                Self { $($name: stub::$name,)* }
+                Self { $($name: stub::$name,)* piped: false }
+            }
+
+            /// The program that `through::start` started.
+            #[allow(dead_code)]
+            pub fn through() -> Self {
+                Self { $($name: piped::$name,)* piped: true }
             }
         }
     };
@@ -77,6 +101,10 @@ calls! {
         d: usize, n: usize, cap: usize, mode: usize) -> u32;
 }
 
+/// How many numbers a search tells: the list's length, how many were ranked, how many were dropped (always 0).
+#[allow(dead_code)]
+pub const SEARCH_TOLD: usize = 3;
+
 #[derive(Clone, Copy, Debug, PartialEq)]
 pub struct Geometry {
     pub d: usize,
@@ -123,12 +151,36 @@ pub struct Out {
 
 #[allow(dead_code)]
 impl Port {
+    /// Does each call take all its memory to another program and back?
+    pub fn piped(&self) -> bool {
+        self.piped
+    }
+
     pub fn sqrt(&self, bits: u32) -> u32 {
         unsafe { (self.bbq_sqrt)(bits) }
     }
 
     pub fn lower(&self, bits: u32) -> u16 {
         unsafe { (self.bbq_lower)(bits) }
+    }
+
+    /// The root of each, in one question where questions cost.
+    pub fn roots(&self, block: &[u32]) -> Vec<u32> {
+        self.each("bbq_sqrt", block, |x| self.sqrt(x))
+    }
+
+    /// Each lowered, likewise.
+    pub fn lowered(&self, block: &[u32]) -> Vec<u32> {
+        self.each("bbq_lower", block, |x| self.lower(x) as u32)
+    }
+
+    fn each(&self, name: &'static str, block: &[u32], one: impl Fn(u32) -> u32) -> Vec<u32> {
+        if !self.piped {
+            return block.iter().map(|x| one(*x)).collect();
+        }
+        let mut row = block.to_vec();
+        through::each(name, &mut row);
+        row
     }
 
     pub fn widen(&self, half: u16) -> u32 {

@@ -2,7 +2,7 @@
 //! grew to, everything that is refused. Numbers and all lent memory afterwards are compared.
 
 use crate::inputs::{self, pick, Ask};
-use crate::port::{Geometry, Lent, Out, Port, Sizes, Work};
+use crate::port::{Geometry, Lent, Out, Port, Sizes, Work, SEARCH_TOLD};
 use crate::stub;
 use crate::tally::Tally;
 use oracle::draw::Draw;
@@ -154,7 +154,7 @@ fn index_calls(port: &Port, rules: &Port, ask: Ask, all: &mut Vec<Tally>) {
     let calls: [(&str, usize, Call); 5] = [
         ("new", 2, |p, x| p.new_index(&mut x.a, x.g)),
         ("add_vector", 2, |p, x| p.add_vector(&x.bases, &mut x.a, &mut x.work.floats, &x.vector, x.g, x.id)),
-        ("find_nearest", 3, |p, x| p.find_nearest(&x.bases, &x.a, &mut x.work, &x.vector, &mut x.out, x.g, x.k, x.search_k, x.spill)),
+        ("find_nearest", SEARCH_TOLD, |p, x| p.find_nearest(&x.bases, &x.a, &mut x.work, &x.vector, &mut x.out, x.g, x.k, x.search_k, x.spill)),
         ("full_table_scan", 2, |p, x| p.full_table_scan(&x.a, &x.vector, &mut x.out, x.g, x.k)),
         ("merge", 2, |p, x| p.merge(&mut x.a, &x.b, x.g)),
     ];

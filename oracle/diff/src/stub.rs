@@ -4,6 +4,7 @@
 
 #![allow(clippy::missing_safety_doc)]
 
+use crate::port::SEARCH_TOLD;
 use std::slice::{from_raw_parts, from_raw_parts_mut};
 use std::sync::atomic::{AtomicUsize, Ordering};
 
@@ -718,7 +719,7 @@ pub unsafe extern "C" fn bbq_find_nearest(
                 && length(target.len(), d)
                 && length(ids.len(), k)
                 && length(scores.len(), k)
-                && told.len() == 3,
+                && told.len() == SEARCH_TOLD,
         )?;
         unless(4, k <= 256)?;
         let target = &target[..d];
@@ -732,7 +733,7 @@ pub unsafe extern "C" fn bbq_find_nearest(
         set.fill(0);
         let (found, dropped) = found?;
         found.put(ids, scores, told);
-        told[2] = dropped;
+        told[2..].fill(dropped);
         Ok(())
     })())
 }

@@ -1,7 +1,9 @@
 """Holds docs/PROMISES.md, the header and the crates to each other: no public call is left out, and no edit is named that is not there."""
+import os
 import pathlib
 import re
 import subprocess
+import tempfile
 import unittest
 
 ROOT = pathlib.Path(__file__).resolve().parent.parent
@@ -150,6 +152,37 @@ class Library(unittest.TestCase):
         text = (ROOT / "tools" / "library").read_text(encoding="utf-8")
         joined = re.search(r"^crates='([^']*)'", text, re.M).group(1).split()
         self.assertEqual(sorted(c for c in listed_crates() if c.startswith("capi_")), sorted(joined))
+
+
+class Tried(unittest.TestCase):
+    """tools/tried, with a made-up rt that says what the true one would."""
+
+    def run_it(self, *words, said=""):
+        with tempfile.TemporaryDirectory() as room:
+            rt = pathlib.Path(room) / "rt"
+            rt.write_text("#!/bin/sh\nls crates/*/must-fail/*.edit >&2\nprintf '%s\\n' \"$*\"\n" + f"cat <<'SAID'\n{said}\nSAID\n", encoding="utf-8")
+            rt.chmod(0o755)
+            return subprocess.run([ROOT / "tools" / "tried", *words], capture_output=True, text=True, env={**os.environ, "PATH": f"{room}:{os.environ['PATH']}"})
+
+    def test_wrong_use_is_told(self):
+        for words in (["nothing"], ["--all"], ["search"]):
+            with self.subTest(words=words):
+                done = self.run_it(*words)
+                self.assertEqual((2, ""), (done.returncode, done.stdout))
+                self.assertEqual(1, len(done.stderr.splitlines()))
+
+    def test_only_the_named_crates_edits_are_tried(self):
+        names = sorted(p.stem for p in (ROOT / "crates" / "ortho" / "tried").glob("*.edit"))
+        said = "\n".join(f"rt: must-fail ortho/{name}: refused, as it must be (first at src/lib.rt:1:1; 1 s)" for name in names)
+        done = self.run_it("--from-nothing", "ortho", said=said)
+        self.assertEqual([f"crates/ortho/must-fail/{name}.edit" for name in names], done.stderr.split())
+        self.assertEqual((0, f"{len(names)} passed, 0 failed"), (done.returncode, done.stdout.splitlines()[-1]))
+
+    def test_an_edit_that_is_not_refused_fails(self):
+        names = sorted(p.stem for p in (ROOT / "crates" / "ortho" / "tried").glob("*.edit"))
+        said = "\n".join(f"rt: must-fail ortho/{name}: refused, as it must be (1 s)" for name in names[1:]) + f"\nrt: must-fail ortho/{names[0]}: NOT REFUSED: the crate is still proved"
+        done = self.run_it("--from-nothing", "ortho", said=said)
+        self.assertEqual((1, f"{len(names) - 1} passed, 1 failed"), (done.returncode, done.stdout.splitlines()[-1]))
 
 
 if __name__ == "__main__":

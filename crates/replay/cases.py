@@ -38,8 +38,8 @@ def runs_of(text):
 
 
 def second_holds_an_id(run):
-    """For each line of additions, whether the second of the two indexes gets one: an odd id that the first does not hold."""
-    d, n, cap = (int(w) for w in run[0].split(' ')[1:4])
+    """For each line of additions, whether the second of the two indexes gets one: of the ids that the first does not hold the odd ones in mode 0, the even ones in mode 1."""
+    d, n, cap, mode = (int(w) for w in run[0].split(' ')[1:5])
     s = int(run[0].split(' ')[9])
     held, got = set(), []
     for _ in range(n * d * d):
@@ -53,7 +53,7 @@ def second_holds_an_id(run):
                 ids.append(s % cap)
                 for _ in range(d):
                     s = step(s)
-            got.append(any(i % 2 == 1 and i not in held for i in ids))
+            got.append(any(i % 2 != mode and i not in held for i in ids))
             held.update(ids)
         elif kind != 'memory':
             for _ in range(d):

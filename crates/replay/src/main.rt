@@ -190,12 +190,10 @@ fn holds(marks: &[u64], cap: usize, id: usize) -> bool {
     }
 }
 
-// Whether an addition is for this index: one that the other does not hold, and of the ids that it does not hold all or the odd ones.
-fn takes(other: &[u64], cap: usize, id: usize, odd: bool) -> bool {
-    if odd {
-        if id % 2 == 0 {
-            return false;
-        }
+// Whether an addition is for this index: not where the other index holds the id, and not where the id is of the parity that is left out; 2 leaves none out.
+fn takes(other: &[u64], cap: usize, id: usize, out: usize) -> bool {
+    if id % 2 == out {
+        return false;
     }
     !holds(other, cap, id)
 }
@@ -231,7 +229,7 @@ fn add(
 fn add_one(
     g: Case,
     seed: u32,
-    odd: bool,
+    out: usize,
     other: &[u64],
     bases: &[f32],
     faces: &mut [u64],
@@ -244,7 +242,7 @@ fn add_one(
     let d = least(g.d, 64);
     let s = draw(&mut v[0..d], place, g.grain, g.scale);
     let mut refusal = 0;
-    if takes(other, g.cap, id, odd) {
+    if takes(other, g.cap, id, out) {
         refusal = add(g, id, bases, faces, marks, vectors, &v[0..d]);
     }
     Drawn { seed: s, refusal }
@@ -255,7 +253,7 @@ fn add_all(
     g: Case,
     m: u64,
     seed: u32,
-    odd: bool,
+    out: usize,
     other: &[u64],
     bases: &[f32],
     faces: &mut [u64],
@@ -266,7 +264,7 @@ fn add_all(
     let mut left = m;
     while left > 0 {
         left -= 1;
-        r = add_one(g, r.seed, odd, other, bases, faces, marks, vectors);
+        r = add_one(g, r.seed, out, other, bases, faces, marks, vectors);
         if r.refusal != 0 {
             left = 0;
         }
@@ -274,7 +272,7 @@ fn add_all(
     r
 }
 
-// A second index, of the odd ids among the additions that the first does not hold. Answers a refusal's number.
+// A second index, of the additions whose ids the first does not hold: the odd ones in mode 0, the even ones in mode 1. Answers a refusal's number.
 fn second(
     g: Case,
     m: u64,
@@ -288,7 +286,7 @@ fn second(
     show_refused(merging::new_vector_store(
         faces2, marks2, vectors2, g.d, g.n, g.cap, g.mode,
     ));
-    let r = add_all(g, m, seed, true, marks, bases, faces2, marks2, vectors2);
+    let r = add_all(g, m, seed, g.mode, marks, bases, faces2, marks2, vectors2);
     r.refusal
 }
 
@@ -328,7 +326,7 @@ fn deal(
     vectors2: &mut [u8],
 ) -> u32 {
     show_refused(second(g, m, seed, bases, marks, faces2, marks2, vectors2));
-    let r = add_all(g, m, seed, false, marks2, bases, faces, marks, vectors);
+    let r = add_all(g, m, seed, 2, marks2, bases, faces, marks, vectors);
     show_refused(r.refusal);
     show_refusal(join(
         g, twice, faces, marks, vectors, faces2, marks2, vectors2,
@@ -385,7 +383,7 @@ fn change(
         return deal_line(l, g, seed, m, bases, faces, marks, vectors);
     }
     let none = [0u64; 1];
-    let r = add_all(g, m, seed, false, &none, bases, faces, marks, vectors);
+    let r = add_all(g, m, seed, 2, &none, bases, faces, marks, vectors);
     show_refusal(r.refusal);
     r.seed
 }

@@ -3,8 +3,8 @@
 
 RECORDED is the folder that has index.txt. A recorded line has a command, its numbers, and what the Rust answered. `stdin` gets the questions alone, in
 hexadecimal digits: the count of runs, then each run's numbers, the count of its lines, and the lines. All runs stand there twice: as recorded, and with
-the additions of every line dealt to two indexes that are then merged. `stdout` is the record, twice. In one run of each mode the second index is merged
-once more after each line of additions; both hold its ids then, so the rule's refusal, 11, stands behind those lines.
+the first additions dealt to two indexes by the parity of their ids. What is added later is added to the merged index. `stdout` is the record, twice. In its second half a line follows each dealt one:
+what merging the second index once more answers. Both indexes hold its ids then, so that is the rule's refusal, 11; none where it has no id.
 """
 import os
 import sys
@@ -12,8 +12,6 @@ import sys
 # the letter of each command, and the numbers that are a question. Those of a run that are bit patterns already are given by their places.
 COMMANDS = {'run': ('', 9), 'add': ('a', 1), 'find': ('f', 3), 'scan': ('s', 1), 'memory': ('m', 0)}
 PATTERNS = (6, 7)
-# the run, counted from 0 in each mode, whose second index is merged twice
-MERGED_TWICE = 8
 
 
 def step(s):
@@ -37,47 +35,50 @@ def runs_of(text):
     return runs
 
 
-def second_holds_an_id(run):
-    """For each line of additions, whether the second of the two indexes gets one: of the ids that the first does not hold the odd ones in mode 0, the even ones in mode 1."""
+def dealt_lines(run):
+    """The lines of a run whose additions are dealt, those up to the first that has one, by their places; of each whether the second index gets an id: an odd
+    one in mode 0, an even one in mode 1. A vector or a target takes d draws, an id one before its vector."""
     d, n, cap, mode = (int(w) for w in run[0].split(' ')[1:5])
     s = int(run[0].split(' ')[9])
-    held, got = set(), []
-    for _ in range(n * d * d):
-        s = step(s)
-    for line in run[1:]:
-        kind, *words = line.split(' ')
-        if kind == 'add':
-            ids = []
-            for _ in range(int(words[0])):
+    places = {}
+
+    def ids(count, own):
+        nonlocal s
+        for _ in range(count):
+            if own:
                 s = step(s)
-                ids.append(s % cap)
-                for _ in range(d):
-                    s = step(s)
-            got.append(any(i % 2 != mode and i not in held for i in ids))
-            held.update(ids)
-        elif kind != 'memory':
+                yield s % cap
             for _ in range(d):
                 s = step(s)
-    return got
+
+    list(ids(n * d, False))
+    for place, line in enumerate(run[1:], 1):
+        kind, *words = line.split(' ')
+        if kind == 'add':
+            added = list(ids(int(words[0]), True))
+            places[place] = any(i % 2 != mode for i in added)
+            if added:
+                return places
+        elif kind != 'memory':
+            list(ids(1, False))
+    return places
 
 
 def main():
     here = os.path.dirname(os.path.abspath(__file__))
     with open(os.path.join(sys.argv[1], 'index.txt'), encoding='ascii') as f:
-        text = f.read()
-    runs = runs_of(text)
+        runs = runs_of(f.read())
     asked, said = ['%x' % (2 * len(runs))], []
     for dealt in (False, True):
-        for place, run in enumerate(runs):
-            twice = dealt and place % (len(runs) // 2) == MERGED_TWICE
-            if twice:
-                assert all(second_holds_an_id(run))
+        for run in runs:
+            places = dealt_lines(run) if dealt else {}
             asked.append('%s %x' % (question(run[0]), len(run) - 1))
             said.append(run[0])
-            for line in run[1:]:
-                adds = line.startswith('add ')
-                asked.append(question(line, ('e' if twice else 'd') if dealt and adds else None))
-                said.append(line + (' refused 11' if twice and adds else ''))
+            for place, line in enumerate(run[1:], 1):
+                asked.append(question(line, 'd' if place in places else None))
+                said.append(line)
+                if place in places:
+                    said.append('merge refused 11' if places[place] else 'merge')
     for name, lines in (('stdin', asked), ('stdout', said)):
         with open(os.path.join(here, name), 'w', encoding='ascii') as f:
             f.write('\n'.join(lines) + '\n')

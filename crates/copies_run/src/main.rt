@@ -14,8 +14,9 @@ use recorded::inner::show_number;
 use recorded::inner::show_refusal;
 use recorded::inner::text;
 
-// Copies the components out, and shows the bytes before and after.
+// Reads the bytes, copies the components out into them, and shows the bytes before and after.
 fn copy_out(mode: u64, v: &[f32], array: &mut [u8]) {
+    bytes(array);
     text(b"copy");
     show_number(mode);
     show_number(v.len() as u64);
@@ -27,16 +28,20 @@ fn copy_out(mode: u64, v: &[f32], array: &mut [u8]) {
     show_refusal(refusal);
 }
 
+// Reads the components.
+fn copy_components(mode: u64, v: &mut [f32]) {
+    floats(v);
+    let mut array = [0u8; 72];
+    let len = least(number() as usize, 72);
+    copy_out(mode, v, &mut array[0..len]);
+}
+
 // A line `c`.
 fn copy_line() {
     let mode = number();
     let mut v = [0.0f32; 16];
     let n = least(number() as usize, 16);
-    floats(&mut v[0..n]);
-    let mut array = [0u8; 72];
-    let len = least(number() as usize, 72);
-    bytes(&mut array[0..len]);
-    copy_out(mode, &v[0..n], &mut array[0..len]);
+    copy_components(mode, &mut v[0..n]);
 }
 
 // How many components that many bytes hold.
@@ -44,8 +49,9 @@ fn components_in(len: usize, mode: u64) -> usize {
     if mode == 0 { len / 4 } else { len / 2 }
 }
 
-// Reads the bytes in, and shows them and the components.
-fn read_in(mode: u64, array: &[u8]) {
+// Reads the bytes, reads them in, and shows them and the components.
+fn read_in(mode: u64, array: &mut [u8]) {
+    bytes(array);
     text(b"read");
     show_number(mode);
     show_number(array.len() as u64);
@@ -62,8 +68,7 @@ fn read_line() {
     let mode = number();
     let mut array = [0u8; 72];
     let len = least(number() as usize, 72);
-    bytes(&mut array[0..len]);
-    read_in(mode, &array[0..len]);
+    read_in(mode, &mut array[0..len]);
 }
 
 // One line. False for a letter that is none of the two.

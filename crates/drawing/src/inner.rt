@@ -4,6 +4,18 @@ ghost use lib.ListN.{length};
 ghost use Rattle.drawing.specs.Draws.{nextOf, componentOf, Draws, BasisDrawn, idOf};
 ghost use Rattle.drawing.specs.Digests.{takenOf, digestOf, halves};
 
+// A run: its geometry, the words of its counting layers, and what its vectors and targets are drawn with.
+pub struct Case {
+    pub d: usize,
+    pub n: usize,
+    pub cap: usize,
+    pub mode: usize,
+    pub layers: usize,
+    pub grain: u16,
+    pub scale: f32,
+    pub aim: f32,
+}
+
 // Where the generator stands after a call, and the call's refusal, 0 for none.
 pub struct Drawn {
     pub seed: u32,
@@ -39,6 +51,12 @@ pub fn draw(out: &mut [f32], seed: u32, grain: u16, scale: f32) -> u32
         i += 1;
     }
     s
+}
+
+// Draws a vector of d components, or of as many as there is room for.
+pub fn draw_vector(v: &mut [f32], d: usize, seed: u32, grain: u16, scale: f32) -> u32 {
+    let len = recorded::inner::least(d, v.len());
+    draw(&mut v[0..len], seed, grain, scale)
 }
 
 // The id that a draw stands for.

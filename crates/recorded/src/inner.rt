@@ -130,10 +130,24 @@ pub fn show_number(n: u64) {
     decimal(n);
 }
 
+// Reads a number and shows it.
+pub fn shown() -> u64 {
+    let n = number();
+    show_number(n);
+    n
+}
+
 // Eight digits after a blank.
 pub fn show_bits(n: u32) {
     text(b" ");
     io::print_hex(STDOUT_FILENO, n as u64, 8);
+}
+
+// Reads a float and shows its pattern.
+pub fn shown_float() -> f32 {
+    let n = low(number());
+    show_bits(n);
+    sqrt::of_bits(n)
 }
 
 // The pattern of a float. Answers it.

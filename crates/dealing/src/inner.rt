@@ -1,115 +1,14 @@
 // A line of additions: `a` adds to the index; `d` deals the additions to it and to a second index by the parity of their ids, and merges the second into
 // it. Of these functions it is proved that they are safe and end.
-use drawing::inner::draw_vector;
-use drawing::inner::id_of;
-use drawing::inner::next_draw;
 use drawing::inner::Case;
-use drawing::inner::Drawn;
+use filling::inner::add_all;
 use recorded::inner::least;
 use recorded::inner::show_refusal;
 use recorded::inner::show_refused;
 use recorded::inner::shown;
 use recorded::inner::text;
 
-// Adds the vector under the id; nothing where the id has the parity that is left out.
-fn add(
-    g: Case,
-    id: usize,
-    out: usize,
-    bases: &[f32],
-    faces: &mut [u64],
-    marks: &mut [u64],
-    vectors: &mut [u8],
-    v: &[f32],
-) -> u32 {
-    if id % 2 == out {
-        return 0;
-    }
-    let mut work = [0.0f32; 64];
-    let nw = least(g.d, 64);
-    let nx = least(g.d, v.len());
-    adding::add_vector(
-        bases,
-        faces,
-        marks,
-        vectors,
-        &mut work[0..nw],
-        &v[0..nx],
-        g.d,
-        g.n,
-        g.cap,
-        g.mode,
-        id,
-    )
-}
-
-// Draws an id and a vector, and adds them.
-fn add_one(
-    g: Case,
-    seed: u32,
-    out: usize,
-    bases: &[f32],
-    faces: &mut [u64],
-    marks: &mut [u64],
-    vectors: &mut [u8],
-) -> Drawn {
-    let place = next_draw(seed);
-    let mut v = [0.0f32; 64];
-    let s = draw_vector(&mut v, g.d, place, g.grain, g.scale);
-    Drawn {
-        seed: s,
-        refusal: add(
-            g,
-            id_of(place, g.cap),
-            out,
-            bases,
-            faces,
-            marks,
-            vectors,
-            &v,
-        ),
-    }
-}
-
-// Draws m additions, and makes all but those of the parity that is left out; 2 leaves none out. Shows refusals. Answers where the generator stands then.
-fn add_all(
-    g: Case,
-    m: u64,
-    seed: u32,
-    out: usize,
-    bases: &[f32],
-    faces: &mut [u64],
-    marks: &mut [u64],
-    vectors: &mut [u8],
-) -> u32 {
-    let mut s = seed;
-    let mut left = m;
-    while left > 0 {
-        left -= 1;
-        let r = add_one(g, s, out, bases, faces, marks, vectors);
-        show_refused(r.refusal);
-        s = r.seed;
-    }
-    s
-}
-
-// A second index, of the additions that the first leaves out.
-fn second(
-    g: Case,
-    m: u64,
-    seed: u32,
-    bases: &[f32],
-    faces: &mut [u64],
-    marks: &mut [u64],
-    vectors: &mut [u8],
-) {
-    show_refused(merging::new_vector_store(
-        faces, marks, vectors, g.d, g.n, g.cap, g.mode,
-    ));
-    add_all(g, m, seed, g.mode, bases, faces, marks, vectors);
-}
-
-// The second index merged into the first. Shows a refusal, and ends the line.
+// The second index merged into the first, and once more, which is refused where it has an id.
 fn join(
     g: Case,
     faces: &mut [u64],
@@ -122,10 +21,14 @@ fn join(
     show_refusal(merging::merge(
         faces, marks, vectors, faces2, marks2, vectors2, g.d, g.n, g.cap, g.mode,
     ));
+    text(b"merge");
+    show_refusal(merging::merge(
+        faces, marks, vectors, faces2, marks2, vectors2, g.d, g.n, g.cap, g.mode,
+    ));
 }
 
-// The second index made and merged, and merged once more, which is refused where it has an id.
-fn join_twice(
+// A second index, of the additions that the first leaves out, made and merged.
+fn second(
     g: Case,
     m: u64,
     seed: u32,
@@ -137,9 +40,10 @@ fn join_twice(
     marks2: &mut [u64],
     vectors2: &mut [u8],
 ) {
-    second(g, m, seed, bases, faces2, marks2, vectors2);
-    join(g, faces, marks, vectors, faces2, marks2, vectors2);
-    text(b"merge");
+    show_refused(merging::new_vector_store(
+        faces2, marks2, vectors2, g.d, g.n, g.cap, g.mode,
+    ));
+    add_all(g, m, seed, g.mode, bases, faces2, marks2, vectors2);
     join(g, faces, marks, vectors, faces2, marks2, vectors2);
 }
 
@@ -159,7 +63,7 @@ fn deal(
     let nf = least(faces.len(), 8192);
     let nm = least(marks.len(), 16);
     let nv = least(vectors.len(), 131072);
-    join_twice(
+    second(
         g,
         m,
         seed,

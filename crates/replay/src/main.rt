@@ -8,13 +8,12 @@
 //   s K                                                   a scan for a drawn target
 //   m                                                     digests of face sets, marks and stored vectors
 // A refusal that is not in the record is written as `refused` and its number.
-use drawing::inner::draw_bases;
 use drawing::inner::Case;
+use filling::inner::start;
 use recorded::inner::least;
 use recorded::inner::letter;
 use recorded::inner::low;
 use recorded::inner::number;
-use recorded::inner::show_refusal;
 use recorded::inner::show_refused;
 use recorded::inner::shown;
 use recorded::inner::shown_float;
@@ -89,31 +88,6 @@ fn play(
         left -= 1;
         s = line(g, s, bases, faces, marks, vectors);
     }
-}
-
-// The length of one of n parts.
-fn part(len: usize, n: usize) -> usize {
-    if n == 0 {
-        return 0;
-    }
-    len / n
-}
-
-// Draws the bases, and ends the line. Answers where the generator stands then.
-fn start(g: Case, rounds: usize, seed: u32, bases: &mut [f32]) -> u32 {
-    let mut basis = [0.0f32; 4096];
-    let len = least(part(bases.len(), g.n), 4096);
-    let r = draw_bases(
-        bases,
-        &mut basis[0..len],
-        g.d,
-        g.n,
-        rounds,
-        seed,
-        g.grain,
-    );
-    show_refusal(r.refusal);
-    r.seed
 }
 
 // A run over exact memory.

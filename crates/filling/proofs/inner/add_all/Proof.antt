@@ -2,8 +2,8 @@
 use borrow.Author.Needs.{needs}
 use mathlib.Core.Path.{_≡_}
 use lib.ListN.{length}
-use Rattle.dealing.proofs.inner.add_all.Statement.{statement}
-use Rattle.dealing.proofs.inner.add_all.Tie as tie
+use Rattle.filling.proofs.inner.add_all.Statement.{statement}
+use Rattle.filling.proofs.inner.add_all.Tie as tie
 
 abbrev Inv-loop : tie.InvT-loop
 Inv-loop g m seed out bases faces₀ marks₀ vectors₀ s₀ left₀ faces marks vectors s left = (length faces ≡ length faces₀) × (length marks ≡ length marks₀) × (length vectors ≡ length vectors₀)

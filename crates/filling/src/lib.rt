@@ -1,0 +1,2 @@
+// Filling the index of a recorded run: its bases, and its additions.
+pub mod inner;

@@ -19,16 +19,14 @@ use recorded::inner::shown;
 use recorded::inner::shown_float;
 use recorded::inner::text;
 
-// The numbers of a run.
-struct Run {
+// The numbers of a run up to the aim.
+struct Header {
     case: Case,
     rounds: usize,
-    seed: u32,
-    lines: u64,
 }
 
-// Reads the numbers of a run and shows them.
-fn run_read() -> Run {
+// Reads these numbers and shows them.
+fn read_header() -> Header {
     text(b"run");
     let d = shown() as usize;
     let n = shown() as usize;
@@ -39,7 +37,7 @@ fn run_read() -> Run {
     let scale = shown_float();
     let aim = shown_float();
     let lengths = paper::lengths_for(d, n, cap, mode);
-    Run {
+    Header {
         case: Case {
             d,
             n,
@@ -51,8 +49,6 @@ fn run_read() -> Run {
             aim,
         },
         rounds,
-        seed: low(shown()),
-        lines: number(),
     }
 }
 
@@ -67,23 +63,23 @@ fn line(
 ) -> u32 {
     let l = letter();
     if l < b'f' {
-        return dealing::inner::change(l, g, seed, bases, faces, marks, vectors);
+        dealing::inner::change(l, g, seed, bases, faces, marks, vectors)
+    } else {
+        asking::inner::ask(l, g, seed, bases, faces, marks, vectors)
     }
-    asking::inner::ask(l, g, seed, bases, faces, marks, vectors)
 }
 
-// The lines of a run.
+// The lines of a run, after their count.
 fn play(
     g: Case,
     seed: u32,
-    lines: u64,
     bases: &[f32],
     faces: &mut [u64],
     marks: &mut [u64],
     vectors: &mut [u8],
 ) {
     let mut s = seed;
-    let mut left = lines;
+    let mut left = number();
     while left > 0 {
         left -= 1;
         s = line(g, s, bases, faces, marks, vectors);
@@ -91,36 +87,44 @@ fn play(
 }
 
 // A run over exact memory.
-fn run(r: Run, bases: &mut [f32], faces: &mut [u64], marks: &mut [u64], vectors: &mut [u8]) {
-    let g = r.case;
-    show_refused(merging::new_vector_store(
-        faces, marks, vectors, g.d, g.n, g.cap, g.mode,
-    ));
-    let s = start(g, r.rounds, r.seed, bases);
-    play(g, s, r.lines, bases, faces, marks, vectors);
-}
-
-// One run, of the lent memory as much as its geometry asks for.
-fn one_run(
+fn run(
+    g: Case,
+    rounds: usize,
     bases: &mut [f32],
     faces: &mut [u64],
     marks: &mut [u64],
     vectors: &mut [u8],
 ) {
-    let r = run_read();
-    let g = r.case;
+    let s = start(g, rounds, low(shown()), bases);
+    show_refused(merging::new_vector_store(
+        faces, marks, vectors, g.d, g.n, g.cap, g.mode,
+    ));
+    play(g, s, bases, faces, marks, vectors);
+}
+
+// A run with marks and vectors cut to what its geometry asks for.
+fn cut_run(
+    g: Case,
+    rounds: usize,
+    bases: &mut [f32],
+    faces: &mut [u64],
+    marks: &mut [u64],
+    vectors: &mut [u8],
+) {
+    let lengths = paper::lengths_for(g.d, g.n, g.cap, g.mode);
+    let nm = least(lengths.marks, marks.len());
+    let nv = least(lengths.vectors, vectors.len());
+    run(g, rounds, bases, faces, &mut marks[0..nm], &mut vectors[0..nv]);
+}
+
+// One run, of the lent memory as much as its geometry asks for.
+fn one_run(bases: &mut [f32], faces: &mut [u64], marks: &mut [u64], vectors: &mut [u8]) {
+    let h = read_header();
+    let g = h.case;
     let lengths = paper::lengths_for(g.d, g.n, g.cap, g.mode);
     let nb = least(lengths.bases, bases.len());
     let nf = least(lengths.faces, faces.len());
-    let nm = least(lengths.marks, marks.len());
-    let nv = least(lengths.vectors, vectors.len());
-    run(
-        r,
-        &mut bases[0..nb],
-        &mut faces[0..nf],
-        &mut marks[0..nm],
-        &mut vectors[0..nv],
-    );
+    cut_run(g, h.rounds, &mut bases[0..nb], &mut faces[0..nf], marks, vectors);
 }
 
 // The lent memory, here and in the lines, is what the largest of the recorded runs ask for, each length by itself.

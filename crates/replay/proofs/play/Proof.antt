@@ -6,10 +6,13 @@ use Rattle.replay.proofs.play.Statement.{statement}
 use Rattle.replay.proofs.play.Tie as tie
 
 abbrev Inv-loop : tie.InvT-loop
-Inv-loop g seed lines bases faces₀ marks₀ vectors₀ s₀ left₀ faces marks vectors s left = (length faces ≡ length faces₀) × (length marks ≡ length marks₀) × (length vectors ≡ length vectors₀)
+Inv-loop g seed bases faces₀ marks₀ vectors₀ s₀ left₀ faces marks vectors s left = (length faces ≡ length faces₀) × (length marks ≡ length marks₀) × (length vectors ≡ length vectors₀)
 
 abbrev μ-loop : tie.MeasureT-loop
-μ-loop g seed lines bases faces₀ marks₀ vectors₀ s₀ left₀ faces marks vectors s left = left
+μ-loop g seed bases faces₀ marks₀ vectors₀ s₀ left₀ faces marks vectors s left = left
+
+number-requires : tie.Need-number-requires Inv-loop μ-loop
+number-requires c κs = search needs
 
 loop-holds : tie.Need-loop-holds Inv-loop μ-loop
 loop-holds c = search needs
@@ -44,6 +47,7 @@ play-spec =
     (tie.spec
     Inv-loop
     μ-loop
+    number-requires
     loop-holds
     sub-left
     line-requires

@@ -1,9 +1,9 @@
 // A line of questions: `f` a search, `s` a scan, each for a drawn target, `m` digests of face sets, marks and stored vectors. Of these functions it is proved
 // that they are safe and end.
+use drawing::inner::Case;
 use drawing::inner::digest_bytes;
 use drawing::inner::digest_words;
 use drawing::inner::draw_vector;
-use drawing::inner::Case;
 use recorded::inner::least;
 use recorded::inner::show_bits;
 use recorded::inner::show_float;
@@ -106,16 +106,7 @@ fn scan(g: Case, marks: &[u64], vectors: &[u8], v: &[f32]) {
     text(b"scan");
     let k = shown() as usize;
     let nx = least(g.d, v.len());
-    let r = vector_store::full_table_scan(
-        marks,
-        vectors,
-        &v[0..nx],
-        g.d,
-        g.n,
-        g.cap,
-        g.mode,
-        k,
-    );
+    let r = vector_store::full_table_scan(marks, vectors, &v[0..nx], g.d, g.n, g.cap, g.mode, k);
     let set = r.set;
     show_answer(r.refusal, set);
 }

@@ -4,7 +4,6 @@ use drawing::inner::Case;
 use filling::inner::add_all;
 use recorded::inner::least;
 use recorded::inner::show_refusal;
-use recorded::inner::show_refused;
 use recorded::inner::shown;
 use recorded::inner::text;
 
@@ -19,15 +18,33 @@ fn join(
     vectors2: &[u8],
 ) {
     show_refusal(merging::merge(
-        faces, marks, vectors, faces2, marks2, vectors2, g.d, g.n, g.cap, g.mode,
+        faces,
+        marks,
+        vectors,
+        faces2,
+        marks2,
+        vectors2,
+        g.d,
+        g.n,
+        g.cap,
+        g.mode,
     ));
     text(b"merge");
     show_refusal(merging::merge(
-        faces, marks, vectors, faces2, marks2, vectors2, g.d, g.n, g.cap, g.mode,
+        faces,
+        marks,
+        vectors,
+        faces2,
+        marks2,
+        vectors2,
+        g.d,
+        g.n,
+        g.cap,
+        g.mode,
     ));
 }
 
-// A second index, of the additions that the first leaves out, made and merged.
+// A second index, empty at first, gets the additions that the first leaves out, and is merged.
 fn second(
     g: Case,
     m: u64,
@@ -40,14 +57,11 @@ fn second(
     marks2: &mut [u64],
     vectors2: &mut [u8],
 ) {
-    show_refused(merging::new_vector_store(
-        faces2, marks2, vectors2, g.d, g.n, g.cap, g.mode,
-    ));
     add_all(g, m, seed, g.mode, bases, faces2, marks2, vectors2);
     join(g, faces, marks, vectors, faces2, marks2, vectors2);
 }
 
-// The same in memory of its own.
+// The same in memory of its own, all zeros, which is an empty index.
 fn deal(
     g: Case,
     m: u64,
@@ -97,7 +111,16 @@ pub fn change(
 ) -> u32 {
     text(b"add");
     let m = shown();
-    let s = add_all(g, m, seed, left_out(l, g.mode), bases, faces, marks, vectors);
+    let s = add_all(
+        g,
+        m,
+        seed,
+        left_out(l, g.mode),
+        bases,
+        faces,
+        marks,
+        vectors,
+    );
     if l == b'a' {
         text(b"\n");
     } else {

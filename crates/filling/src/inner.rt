@@ -1,10 +1,10 @@
 // What is drawn is put to the calls. Of these functions it is proved that they are safe and end.
+use drawing::inner::Case;
+use drawing::inner::Drawn;
 use drawing::inner::draw_bases;
 use drawing::inner::draw_vector;
 use drawing::inner::id_of;
 use drawing::inner::next_draw;
-use drawing::inner::Case;
-use drawing::inner::Drawn;
 use recorded::inner::least;
 use recorded::inner::show_refusal;
 use recorded::inner::show_refused;
@@ -23,15 +23,7 @@ fn part(len: usize, n: usize) -> usize {
 pub fn start(g: Case, rounds: usize, seed: u32, bases: &mut [f32]) -> u32 {
     let mut basis = [0.0f32; 4096];
     let len = least(part(bases.len(), g.n), 4096);
-    let r = draw_bases(
-        bases,
-        &mut basis[0..len],
-        g.d,
-        g.n,
-        rounds,
-        seed,
-        g.grain,
-    );
+    let r = draw_bases(bases, &mut basis[0..len], g.d, g.n, rounds, seed, g.grain);
     show_refusal(r.refusal);
     r.seed
 }
@@ -50,24 +42,25 @@ fn add(
     v: &[f32],
 ) -> u32 {
     if id % 2 == out {
-        return 0;
+        0
+    } else {
+        let mut work = [0.0f32; 64];
+        let nw = least(g.d, 64);
+        let nx = least(g.d, v.len());
+        adding::add_vector(
+            bases,
+            faces,
+            marks,
+            vectors,
+            &mut work[0..nw],
+            &v[0..nx],
+            g.d,
+            g.n,
+            g.cap,
+            g.mode,
+            id,
+        )
     }
-    let mut work = [0.0f32; 64];
-    let nw = least(g.d, 64);
-    let nx = least(g.d, v.len());
-    adding::add_vector(
-        bases,
-        faces,
-        marks,
-        vectors,
-        &mut work[0..nw],
-        &v[0..nx],
-        g.d,
-        g.n,
-        g.cap,
-        g.mode,
-        id,
-    )
 }
 
 // Draws an id and a vector, and adds them.

@@ -96,9 +96,7 @@ fn run(
     vectors: &mut [u8],
 ) {
     let s = start(g, rounds, low(shown()), bases);
-    show_refused(merging::new_vector_store(
-        faces, marks, vectors, g.d, g.n, g.cap, g.mode,
-    ));
+    show_refused(merging::new_vector_store(faces, marks, vectors, g.d, g.n, g.cap, g.mode));
     play(g, s, bases, faces, marks, vectors);
 }
 
@@ -114,7 +112,14 @@ fn cut_run(
     let lengths = paper::lengths_for(g.d, g.n, g.cap, g.mode);
     let nm = least(lengths.marks, marks.len());
     let nv = least(lengths.vectors, vectors.len());
-    run(g, rounds, bases, faces, &mut marks[0..nm], &mut vectors[0..nv]);
+    run(
+        g,
+        rounds,
+        bases,
+        faces,
+        &mut marks[0..nm],
+        &mut vectors[0..nv],
+    );
 }
 
 // One run, of the lent memory as much as its geometry asks for.
@@ -124,7 +129,14 @@ fn one_run(bases: &mut [f32], faces: &mut [u64], marks: &mut [u64], vectors: &mu
     let lengths = paper::lengths_for(g.d, g.n, g.cap, g.mode);
     let nb = least(lengths.bases, bases.len());
     let nf = least(lengths.faces, faces.len());
-    cut_run(g, h.rounds, &mut bases[0..nb], &mut faces[0..nf], marks, vectors);
+    cut_run(
+        g,
+        h.rounds,
+        &mut bases[0..nb],
+        &mut faces[0..nf],
+        marks,
+        vectors,
+    );
 }
 
 // The lent memory, here and in the lines, is what the largest of the recorded runs ask for, each length by itself.

@@ -128,12 +128,7 @@ fn of_two(kind: u64, a: &[f32], b: &[f32]) -> u32 {
 
 // A case of kind 4.
 fn of_basis(number: usize, a: &[f32], b: &mut [f32]) {
-    put_refusal(ortho::orthonormalize(
-        a,
-        b,
-        number % 65536,
-        number / 65536,
-    ));
+    put_refusal(ortho::orthonormalize(a, b, number % 65536, number / 65536));
     put_all_unsigned(b);
 }
 

@@ -2,47 +2,10 @@
 // it. Of these functions it is proved that they are safe and end.
 use drawing::inner::Case;
 use filling::inner::add_all;
+use filling::inner::join;
 use recorded::inner::least;
-use recorded::inner::show_refusal;
 use recorded::inner::shown;
 use recorded::inner::text;
-
-// The second index merged into the first, and once more, which is refused where it has an id.
-fn join(
-    g: Case,
-    faces: &mut [u64],
-    marks: &mut [u64],
-    vectors: &mut [u8],
-    faces2: &[u64],
-    marks2: &[u64],
-    vectors2: &[u8],
-) {
-    show_refusal(merging::merge(
-        faces,
-        marks,
-        vectors,
-        faces2,
-        marks2,
-        vectors2,
-        g.d,
-        g.n,
-        g.cap,
-        g.mode,
-    ));
-    text(b"merge");
-    show_refusal(merging::merge(
-        faces,
-        marks,
-        vectors,
-        faces2,
-        marks2,
-        vectors2,
-        g.d,
-        g.n,
-        g.cap,
-        g.mode,
-    ));
-}
 
 // A second index, empty at first, gets the additions that the first leaves out, and is merged.
 fn second(

@@ -8,6 +8,7 @@ use drawing::inner::next_draw;
 use recorded::inner::least;
 use recorded::inner::show_refusal;
 use recorded::inner::show_refused;
+use recorded::inner::text;
 
 // ---- bases
 
@@ -111,4 +112,43 @@ pub fn add_all(
         s = r.seed;
     }
     s
+}
+
+// ---- merging
+
+// A second index merged into the first, and once more, which is refused where it has an id. Shows refusals, and ends the lines.
+pub fn join(
+    g: Case,
+    faces: &mut [u64],
+    marks: &mut [u64],
+    vectors: &mut [u8],
+    faces2: &[u64],
+    marks2: &[u64],
+    vectors2: &[u8],
+) {
+    show_refusal(merging::merge(
+        faces,
+        marks,
+        vectors,
+        faces2,
+        marks2,
+        vectors2,
+        g.d,
+        g.n,
+        g.cap,
+        g.mode,
+    ));
+    text(b"merge");
+    show_refusal(merging::merge(
+        faces,
+        marks,
+        vectors,
+        faces2,
+        marks2,
+        vectors2,
+        g.d,
+        g.n,
+        g.cap,
+        g.mode,
+    ));
 }

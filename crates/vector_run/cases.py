@@ -9,7 +9,6 @@ After these come calls that the Rust has no answer for: refusals, whose lines ar
 left out, and lent memory as it was, or +0.0 after orthonormalize's 6).
 """
 import os
-import struct
 import sys
 
 ONE, TWO, ZERO, NAN, INF, MAX, TINY = 0x3f800000, 0x40000000, 0, 0x7fc00000, 0x7f800000, 0x7f7fffff, 1
@@ -100,9 +99,9 @@ def refusals():
 def main():
     here = os.path.dirname(os.path.abspath(__file__))
     cases = list(recorded(sys.argv[1])) + list(refusals())
-    with open(os.path.join(here, 'stdin'), 'wb') as f:
+    with open(os.path.join(here, 'stdin'), 'w', encoding='ascii') as f:
         for kind, number, a, b, _ in cases:
-            f.write(struct.pack('<4I', kind, number, len(a), len(b)) + struct.pack('<%dI' % (len(a) + len(b)), *a, *b))
+            f.write(' '.join('%x' % x for x in [kind, number, len(a), len(b)] + a + b) + '\n')
     with open(os.path.join(here, 'stdout'), 'w', encoding='ascii') as f:
         for case in cases:
             f.write(case[4] + '\n')

@@ -1,35 +1,24 @@
 // Puts the cases of standard input to the calls on vectors, bases and faces, and writes what they answer, a line a case.
-// A case is four words of 32 bits, little-endian: the kind, a number, n and m; then the patterns of n floats and of m floats.
+// A case is a line of numbers in hexadecimal digits: the kind, a number, n and m; then the patterns of n floats and of m floats.
 //   1 dot_product, 2 distance: of the n and the m floats
 //   3 normalize: of the n floats
 //   4 orthonormalize: of the n floats, into a buffer that holds the m floats; the number is 65,536 times the rounds, and d
 //   5 find_face_idx, 6 spill_faces: of the n floats, the number is the spill
 // A line is the refusal's number, then what the call gives, then what it leaves in lent memory: floats as patterns, faces as numbers.
 use faces::FaceAnswer;
-use libc::STDIN_FILENO;
-use libc::STDOUT_FILENO;
+use recorded::inner::decimal;
+use recorded::inner::floats;
+use recorded::inner::number;
+use recorded::inner::show_float;
+use recorded::inner::show_floats;
+use recorded::inner::text;
 use vector::Number;
 ghost use mathlib.Core.Path.{_≡_};
-ghost use Prim.Native.Nat.{_+_, _*_, _<_, _≤_};
-ghost use lib.ListN.{length, getD};
+ghost use Prim.Native.Nat.{_≤_};
+ghost use lib.ListN.{length};
 ghost use lib.IntN.{natAbs};
 ghost use Rattle.vector.specs.Answer.{refusalOf};
 ghost use Rattle.vector_run.specs.Shown.{facesRefusalOf};
-ghost use lib.Ieee.{binary32, toBits};
-
-fn wide(x: u8) -> u32
-    ensures { λ r. ⌜ (r ≡ x) × (r < 256) ⌝ }
-{
-    x as u32
-}
-
-// The word at a place.
-fn word(b: &[u8], at: usize) -> u32
-    requires { ⌜ at + 4 ≤ length (now b) ⌝ }
-    ensures { λ r. ⌜ r ≡ getD (now (b .entry)) at 0 + 256 * getD (now (b .entry)) (at + 1) 0 + 65536 * getD (now (b .entry)) (at + 2) 0 + 16777216 * getD (now (b .entry)) (at + 3) 0 ⌝ }
-{
-    wide(b[at]) + 256 * wide(b[at + 1]) + 65536 * wide(b[at + 2]) + 16777216 * wide(b[at + 3])
-}
 
 // The absolute value of a face.
 fn magnitude(f: i32) -> u64
@@ -42,17 +31,17 @@ fn magnitude(f: i32) -> u64
     f as u64
 }
 
-// One face, after a space.
+// One face, after a blank. Answers its absolute value.
 fn put_face(f: i32) -> u64
     ensures { λ r. ⌜ r ≡ natAbs f ⌝ }
 {
     let n = magnitude(f);
     if f < 0 {
-        io::write_all(STDOUT_FILENO, b" -");
+        text(b" -");
     } else {
-        io::write_all(STDOUT_FILENO, b" ");
+        text(b" ");
     }
-    io::print_decimal(STDOUT_FILENO, n);
+    decimal(n);
     n
 }
 
@@ -71,55 +60,22 @@ fn put_faces(faces: &[i32], n: usize) -> usize
     i
 }
 
-// One pattern, after a space. Answers it.
-fn put_float(x: f32) -> u32
-    ensures { λ r. ⌜ r ≡ toBits binary32 x ⌝ }
-{
-    let n = sqrt::bits_of(x);
-    io::write_all(STDOUT_FILENO, b" ");
-    io::print_hex(STDOUT_FILENO, n as u64, 8);
-    n
+// A pattern with every zero as +0.0: orthonormalize of the Rust adds from -0.0, so the sign of a zero is not compared there.
+fn put_unsigned(x: f32) {
+    if x == 0.0 {
+        show_float(0.0);
+    } else {
+        show_float(x);
+    }
 }
 
-// All patterns. Answers how many there were.
-fn put_floats(v: &[f32]) -> usize
+// All patterns, so. Answers how many there were.
+fn put_all_unsigned(v: &[f32]) -> usize
     ensures { λ r. ⌜ r ≡ length (now (v .entry)) ⌝ }
 {
     let mut i = 0;
     while i < v.len() {
-        put_float(v[i]);
-        i += 1;
-    }
-    i
-}
-
-// The same with every zero as +0.0: orthonormalize of the Rust adds from -0.0, so the sign of a zero is not compared there.
-fn put_unsigned(v: &[f32]) -> usize
-    ensures { λ r. ⌜ r ≡ length (now (v .entry)) ⌝ }
-{
-    let mut i = 0;
-    while i < v.len() {
-        if v[i] == 0.0 {
-            put_float(0.0);
-        } else {
-            put_float(v[i]);
-        }
-        i += 1;
-    }
-    i
-}
-
-// Reads floats until the list is full. Answers how many there were.
-fn read_floats(out: &mut [f32]) -> usize
-    ensures { λ r. ⌜ r ≤ length (now (out .entry)) ⌝ }
-{
-    let mut i = 0;
-    while i < out.len() {
-        let mut four = [0u8; 4];
-        if io::read_full(STDIN_FILENO, &mut four) < 4 {
-            return i;
-        }
-        out[i] = sqrt::of_bits(word(&four, 0));
+        put_unsigned(v[i]);
         i += 1;
     }
     i
@@ -129,7 +85,7 @@ fn read_floats(out: &mut [f32]) -> usize
 fn put_refusal(num: u32) -> u32
     ensures { λ r. ⌜ r ≡ num ⌝ }
 {
-    io::print_decimal(STDOUT_FILENO, num as u64);
+    decimal(num as u64);
     num
 }
 
@@ -140,7 +96,7 @@ fn put_number(answer: Number) -> u32
     match answer {
         Number::Value(x) => {
             put_refusal(0);
-            put_float(x);
+            show_float(x);
             0
         }
         Number::Refused(num) => put_refusal(num),
@@ -161,57 +117,72 @@ fn put_face_answer(answer: FaceAnswer) -> u32
     }
 }
 
-// Puts one case to its call, and writes the line. Answers the kind.
-fn answer(kind: u32, number: usize, a: &mut [f32], b: &mut [f32]) -> u32
-    ensures { λ r. ⌜ r ≡ kind ⌝ }
-{
+// A case of kind 1 or 2.
+fn of_two(kind: u64, a: &[f32], b: &[f32]) -> u32 {
     if kind == 1 {
-        put_number(vector::dot_product(a, b));
-    } else if kind == 2 {
-        put_number(vector::distance(a, b));
-    } else if kind == 3 {
+        put_number(vector::dot_product(a, b))
+    } else {
+        put_number(vector::distance(a, b))
+    }
+}
+
+// A case of kind 4.
+fn of_basis(number: usize, a: &[f32], b: &mut [f32]) {
+    put_refusal(ortho::orthonormalize(a, b, number % 65536, number / 65536));
+    put_all_unsigned(b);
+}
+
+// A case of kind 6.
+fn of_spill(number: usize, a: &mut [f32]) {
+    let spilled = faces::spill_faces(a, number);
+    put_refusal(spilled.refusal);
+    put_faces(&spilled.faces, spilled.count);
+    show_floats(a);
+}
+
+// A case of kind 3, 5 or 6.
+fn of_one(kind: u64, number: usize, a: &mut [f32]) {
+    if kind == 3 {
         put_refusal(vector::normalize(a));
-        put_floats(a);
-    } else if kind == 4 {
-        put_refusal(ortho::orthonormalize(a, b, number % 65536, number / 65536));
-        put_unsigned(b);
+        show_floats(a);
     } else if kind == 5 {
         put_face_answer(faces::find_face_idx(a));
-    } else if kind == 6 {
-        let spilled = faces::spill_faces(a, number);
-        put_refusal(spilled.refusal);
-        put_faces(&spilled.faces, spilled.count);
-        put_floats(a);
+    } else {
+        of_spill(number, a);
     }
-    kind
+}
+
+// Puts one case to its call, and writes what is answered.
+fn answer(kind: u64, number: usize, a: &mut [f32], b: &mut [f32]) {
+    if kind <= 2 {
+        of_two(kind, a, b);
+    } else if kind == 4 {
+        of_basis(number, a, b);
+    } else {
+        of_one(kind, number, a);
+    }
 }
 
 // One case: read, put to its call, and answered. False where the input ends or the lists have no room for the case.
-fn one_case(a: &mut [f32], b: &mut [f32]) -> bool
-    ensures { λ _. ⌜ (length (now (a .exit)) ≡ length (now (a .entry))) × (length (now (b .exit)) ≡ length (now (b .entry))) ⌝ }
-{
-    let mut head = [0u8; 16];
-    if io::read_full(STDIN_FILENO, &mut head) < 16 {
+fn one_case(a: &mut [f32], b: &mut [f32]) -> bool {
+    let kind = number();
+    let given = number() as usize;
+    let n = number() as usize;
+    let m = number() as usize;
+    if kind == 0 {
         return false;
     }
-    let kind = word(&head, 0);
-    let number = word(&head, 4) as usize;
-    let n = word(&head, 8) as usize;
-    let m = word(&head, 12) as usize;
     if a.len() < n {
         return false;
     }
     if b.len() < m {
         return false;
     }
-    if read_floats(&mut a[0..n]) < n {
-        return false;
-    }
-    if read_floats(&mut b[0..m]) < m {
-        return false;
-    }
-    answer(kind, number, &mut a[0..n], &mut b[0..m]);
-    io::write_all(STDOUT_FILENO, b"\n")
+    floats(&mut a[0..n]);
+    floats(&mut b[0..m]);
+    answer(kind, given, &mut a[0..n], &mut b[0..m]);
+    text(b"\n");
+    true
 }
 
 fn main() {

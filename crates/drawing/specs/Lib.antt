@@ -1,0 +1,3 @@
+-- What is drawn, and what a digest is.
+pub mod Draws
+pub mod Digests

@@ -1,0 +1,64 @@
+-- `floats` is safe and ends, and meets its contract. Assumes nothing.
+use borrow.Author.Needs.{needs}
+use Prim.Native.Nat.{_-_, _≤_}
+use mathlib.Core.Path.{_≡_}
+use lib.ListN.{length}
+use Rattle.recorded.proofs.inner.floats.Statement.{statement}
+use Rattle.recorded.proofs.inner.floats.Tie as tie
+
+abbrev Inv-loop : tie.InvT-loop
+Inv-loop out₀ i₀ out i = (length out ≡ length out₀) × (i ≤ length out₀)
+
+abbrev μ-loop : tie.MeasureT-loop
+μ-loop out₀ i₀ out i = length out₀ - i
+
+loop-holds : tie.Need-loop-holds Inv-loop μ-loop
+loop-holds c = search needs
+
+number-requires : tie.Need-number-requires Inv-loop μ-loop
+number-requires c κs = search needs
+
+low-requires : tie.Need-low-requires Inv-loop μ-loop
+low-requires c κs = search needs
+
+of-bits-requires : tie.Need-of-bits-requires Inv-loop μ-loop
+of-bits-requires c κs = search needs
+
+mul-out : tie.Need-mul-out Inv-loop μ-loop
+mul-out c = search needs
+
+slice-write-out : tie.Need-slice-write-out Inv-loop μ-loop
+slice-write-out c = search needs
+
+add-i : tie.Need-add-i Inv-loop μ-loop
+add-i c = search needs
+
+loop-less : tie.Need-loop-less Inv-loop μ-loop
+loop-less c = search needs
+
+loop-again : tie.Need-loop-again Inv-loop μ-loop
+loop-again c = search needs
+
+same-length : tie.Need-same-length Inv-loop μ-loop
+same-length c = search needs
+
+returns : tie.Need-returns Inv-loop μ-loop
+returns c = search needs
+
+pub floats-spec : {M : Type 1} → statement M
+floats-spec =
+    tie.close
+    (tie.spec
+    Inv-loop
+    μ-loop
+    loop-holds
+    number-requires
+    low-requires
+    of-bits-requires
+    mul-out
+    slice-write-out
+    add-i
+    loop-less
+    loop-again
+    same-length
+    returns)

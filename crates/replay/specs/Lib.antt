@@ -1,4 +1,0 @@
--- What the program's parts promise.
-pub mod Steps
-pub mod Draws
-pub mod Digests

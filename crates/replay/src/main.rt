@@ -8,8 +8,6 @@
 //   s K                                                   a scan for a drawn target
 //   m                                                     digests of face sets, marks and stored vectors
 // A refusal that is not in the record is written as `refused` and its number.
-use drawing::inner::Case;
-use filling::inner::start;
 use recorded::inner::least;
 use recorded::inner::letter;
 use recorded::inner::low;
@@ -18,6 +16,8 @@ use recorded::inner::show_refused;
 use recorded::inner::shown;
 use recorded::inner::shown_float;
 use recorded::inner::text;
+use replay_drawing::inner::Case;
+use replay_filling::inner::start;
 
 // The numbers of a run up to the aim.
 struct Header {
@@ -63,9 +63,9 @@ fn line(
 ) -> u32 {
     let l = letter();
     if l < b'f' {
-        dealing::inner::change(l, g, seed, bases, faces, marks, vectors)
+        replay_dealing::inner::change(l, g, seed, bases, faces, marks, vectors)
     } else {
-        asking::inner::ask(l, g, seed, bases, faces, marks, vectors)
+        replay_asking::inner::ask(l, g, seed, bases, faces, marks, vectors)
     }
 }
 

@@ -118,7 +118,7 @@ pub extern "C" fn bbq_full_table_scan(
     capi_sets::inner::put_fed(fed, ids, scores, told)
 }
 
-// Finds the nearest k (vector_store::find_nearest) and writes the list: its ids and scores into the first places of two arrays of length k, its length,
+// Searches (vector_store::find_nearest) and writes the list: its ids and scores into the first places of two arrays of length k, its length,
 // how many ids were ranked and how many were dropped into `told`. Refuses 1, 2 (also for the three arrays), 4, 5, 7, 8, 9, 10; the arrays are then as
 // they were. Refusals 1 to 5 leave the work memories as they were; past those they are all zeros.
 #[no_mangle]

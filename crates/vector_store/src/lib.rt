@@ -212,10 +212,12 @@ fn find_and_clear(
     nearest
 }
 
-// Finds the nearest k among the candidates that the index names: each basis's union of spill + 1 picked face sets (spill at or above d counts as d - 1), merged into
-// n counting layers, of which the highest with at least search_k ids is ranked by rising id with the distance from the target as given.
-// Refuses 1, 2, 4, 5, 7, 8, then 9 and 10 for each candidate by rising id; a refused list is empty, with k 0 and checked 0, and the dropped total is 0.
-// Work is d floats, layers n times and set once the words of a set: refusals 1 to 5 leave them as they were, and past those they are all zeros, whatever the answer.
+// Lists at most k of the candidates that the index names for the target. The candidates: each basis has a union of the spill + 1 face sets that the
+// target's projection picks (a spill of d or more counts as d - 1), the unions are merged into n counting layers, and the highest layer with search_k ids
+// or more is taken. Each candidate is fed, lowest id first, with its distance from the target, which is not normalised here. Larger scores come first, and a
+// list of more than k candidates keeps the k farthest.
+// Refuses 1, 2, 4, 5, 7 and 8, and then for each candidate in turn 9 or 10. A refused list is empty, says k 0 and checked 0, and has dropped nothing.
+// Work is d floats, layers n times and set once the words of a set: 1 to 5 leave them alone, and after anything else they are all zeros.
 pub fn find_nearest(
     bases: &[f32],
     faces: &[u64],

@@ -87,10 +87,10 @@ enum bbq_refusal {
     BBQ_WRONG_ID = 3,       /* an id that is not below cap */
     BBQ_WRONG_K = 4,        /* k over 256 */
     BBQ_NOT_FINITE = 5,     /* a component of a given vector, or of a basis to orthonormalise, is not finite */
-    BBQ_NO_NORM = 6,        /* a norm that is zero or not finite, or a component that is not finite after the step */
+    BBQ_NO_NORM = 6,        /* a vector cannot be brought to length 1: the norm is 0 or not finite, or a quotient is not finite */
     BBQ_NO_PROJECTION = 7,  /* an entry of a projection is not finite: too large, or the basis is not finite */
     BBQ_NO_LAYER = 8,       /* no counting layer holds search_k ids */
-    BBQ_NO_MARK = 9,        /* an id of the chosen layer has no present mark: something else wrote into the index */
+    BBQ_NO_MARK = 9,        /* a candidate has no present mark: something else wrote into the index */
     BBQ_NAN_SCORE = 10,     /* a score is NaN; in a search or a scan: something else wrote into the index */
     BBQ_SHARED_ID = 11,     /* both indexes to merge hold an id */
     BBQ_FULL_COUNT = 12     /* bbq_feed was lent more than 4,294,967,295 pairs */
@@ -101,7 +101,7 @@ enum bbq_refusal {
 /* The bits of the nearest binary32 to the root of the binary32 with these bits; a NaN and a negative other than -0 give 7FC00000. */
 uint32_t bbq_sqrt(uint32_t bits);
 
-/* The bf16 of a binary32, both as bits: to nearest, ties to even; a NaN keeps its upper half with bit 0040 set. */
+/* The bf16 of a binary32, both as bits: the nearest, of two as near the even one; of a NaN its upper half and bit 0040. */
 uint16_t bbq_lower(uint32_t bits);
 
 /* The binary32 of a bf16, both as bits. */

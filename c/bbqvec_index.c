@@ -164,10 +164,10 @@ const char *bbq_refusal_text(uint32_t number) {
     case 3: return "the id is not below the capacity";
     case 4: return "k is over 256";
     case 5: return "a component of a given vector is not finite";
-    case 6: return "a norm is zero or not finite, or a component is not finite after the step";
+    case 6: return "a vector cannot be brought to length 1: its norm is 0 or not finite, or a quotient is not finite";
     case 7: return "an entry of a projection is not finite";
     case 8: return "no counting layer holds search_k ids";
-    case 9: return "an id of the chosen layer has no present mark";
+    case 9: return "a candidate has no present mark";
     case 10: return "a score is not a number";
     case 11: return "both indexes hold an id";
     case 12: return "a result set can count no further entry";

@@ -205,8 +205,8 @@ fn check_and_write(
 // ---- the call
 
 // Puts the vector into the index under the id: the id goes into one face set of each basis, that of the face of the vector's projection; its mark
-// is set; the vector is stored, normalised and lowered. Adding an id again overwrites its vector and leaves its older face bits. Refuses 1, 2, 3, 5,
-// 6, 7 in this order. No refusal changes the index, and 1 to 5 change nothing at all; past them the work memory is +0.0 throughout.
+// is set; the vector is stored, normalised and lowered. An id that is there already gets the new vector, and its older face bits stay. Refuses 1, 2, 3, 5,
+// 6, 7 in this order. A refused addition leaves the index as it was. 1 to 5 leave the work memory too; after anything else it is +0.0 throughout.
 pub fn add_vector(
     bases: &[f32],
     faces: &mut [u64],

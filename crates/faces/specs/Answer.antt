@@ -13,7 +13,7 @@ use Rattle.faces.specs.declared.FaceAnswer.{FaceAnswer}
 use Rattle.faces.specs.declared.FaceAnswer.the-variants.{Face, Refused}
 use Rattle.faces.specs.declared.Spilled.{Spilled}
 
--- 1 for a length outside 1 to 1,024, then 7 for an entry that is not finite
+-- 1 unless there are 1 to 1,024 entries, then 7 unless each of them is finite
 unfoldable pub faceNumber : List Float → ℕ
 faceNumber w = refuse 1 (leb 1 (length w) and leb (length w) 1024) (refuse 7 (allFinite w) 0)
 

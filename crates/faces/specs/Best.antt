@@ -1,5 +1,5 @@
--- Which entry of a projection gives its face (01, "Face"): the one of greatest absolute value; of equal ones a positive before a negative; then
--- the first index. Definitions only.
+-- Which entry of a projection gives its face (01, "Face"): the one farthest from 0; where several are as far, one above 0
+-- if there is one; and of those the first. Definitions only.
 use Prim.Native.Nat.{ℕ, zero, suc, _<_}
 use mathlib.Core.Path.{_≡_}
 use mathlib.Core.Bool.{Bool, true, not, _&&_, _||_}

@@ -20,7 +20,7 @@ pub struct Spilled {
     pub faces: [i32; 1024],
 }
 
-// 0 for a projection that has a face: 1 for a length outside 1 to 1,024, then 7 for an entry that is not finite.
+// 0 for a projection that has a face: 1 unless there are 1 to 1,024 entries, then 7 unless each of them is finite.
 fn face_refusal(projection: &[f32]) -> u32
     ensures { λ r. ⌜ r ≡ faceNumber (now (projection .entry)) ⌝ }
 {
@@ -38,7 +38,7 @@ fn face_refusal(projection: &[f32]) -> u32
 }
 
 // The face of a projection: index + 1 of its greatest entry, or -(index + 1) where that entry is not above 0. Of equal ones a positive comes before a
-// negative, then the first index. Refuses 1 for a length outside 1 to 1,024, then 7 for an entry that is not finite.
+// negative, then the first index. Refuses 1 unless there are 1 to 1,024 entries, then 7 unless each of them is finite.
 pub fn find_face_idx(projection: &[f32]) -> FaceAnswer
     ensures { λ r. ⌜ FaceIs r (faceNumber (now (projection .entry))) (faceOf (now (projection .entry))) ⌝ }
 {

@@ -4,7 +4,7 @@ ghost use Rattle.paper.specs.Geometry.{capOk, modeOk, geoOk, compSize, g
 
 pub mod inner;
 
-// A geometry or a store mode outside its range, too many rounds, or a record at a wrong time or outside the program's limits.
+// A geometry or a store mode outside its range, too many rounds, or a record that comes too early or too late, or asks for more than the program has room for.
 pub const WRONG_GEOMETRY: u32 = 1;
 // A lent memory, or a record's body, of a wrong length.
 pub const WRONG_LENGTH: u32 = 2;

@@ -52,7 +52,7 @@ is-nan b h = nanBits-above binary32 b ∙ lt-ltb 2139095040 (b % 2147483648) h
 is-number : (b : ℕ) → b % 2147483648 ≤ 2139095040 → nanBits binary32 b ≡ false
 is-number b h = nanBits-above binary32 b ∙ le-ltb 2139095040 (b % 2147483648) h
 
--- a NaN keeps its upper half, with bit 0040 set
+-- what a NaN is lowered to: its upper half and bit 0040
 pub lowered-nan : (b : ℕ) → 2139095040 < b % 2147483648 → lowered b ≡ bitOr (b / 65536) 64
 unfolding lowered
 lowered-nan b h = ap (λ (t : Bool). pick t (bitOr (b / 65536) 64) (closest b 65536)) (is-nan b h)

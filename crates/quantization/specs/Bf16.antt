@@ -8,7 +8,7 @@ use lib.Ieee.Nearest.{closest}
 use Rattle.paper.specs.Choice.{pick}
 use Rattle.sqrt.specs.Root.{mag}
 
--- Lowering: the upper 16 bits, rounded to nearest, a tie to the even one; a NaN keeps its upper half, with bit 0040 set.
+-- Lowering: the upper 16 bits, one more where the rest is above one half, or is one half and they are odd; of a NaN its upper half and bit 0040.
 -- (`closest b 65536` is the whole number nearest to b / 65536, of two the even one. That this is the nearest half by value is
 -- `Nearest` below, and the law `lowered-nearest`.)
 unfoldable pub lowered : ℕ → ℕ

@@ -19,7 +19,7 @@ pub record Laws : Type 0 where
   -- lowering gives the nearest half of either sign, a tie the even one, for every pattern but a NaN's; and nothing else is the nearest
   pub lowered-nearest : (b : ℕ) → b < 0x1_0000_0000 → b % 0x8000_0000 ≤ 0x7f80_0000 → Nearest b (lowered b)
   pub nearest-only : (b : ℕ) → b < 0x1_0000_0000 → b % 0x8000_0000 ≤ 0x7f80_0000 → (h : ℕ) → Nearest b h → h ≡ lowered b
-  -- a NaN keeps its upper half, with bit 0040 set
+  -- a NaN is lowered to its upper half and bit 0040
   pub lowered-nan : (b : ℕ) → 0x7f80_0000 < b % 0x8000_0000 → lowered b ≡ bitOr (b / 65536) 0x40
   -- a half that is widened and lowered again comes back; a NaN's with bit 0040 set, which a quiet one has anyway
   pub lowered-widened : (h : ℕ) → lowered (widened h) ≡ pick (nanBits binary32 (widened h)) (bitOr h 0x40) h

@@ -7,8 +7,8 @@ ghost use Rattle.quantization.specs.Laws.{Laws};
 
 pub mod inner;
 
-// The bf16 of a binary32, both as bits: the upper 16 bits, rounded to nearest, ties to even. A NaN keeps its upper half with
-// bit 0040 set. (half's from_f32.)
+// The bf16 of a binary32, both as bits: the nearest, and of two as near the even one; of a NaN its upper half and bit 0040. (half's
+// from_f32.)
 pub fn lower(bits: u32) -> u16
     ensures { λ r. ⌜ r ≡ lowered bits ⌝ }
 {

@@ -136,8 +136,9 @@ fn search_of(s: &[u8], g: Session) -> Request
     )
 }
 
-// What a record, its kind and its body, asks for. It refuses 15 for an unknown kind, then 1 for a wrong time, 2 for a wrong body,
-// 1 for a field; 1 before all of them for a session outside the program's limits, which no run reaches.
+// What a record, its kind and its body, asks for. It refuses 15 for a kind that it does not know, 1 for a record that may
+// not come now, 2 for its length, 1 for a field, in this order; and 1 before all of them for a session beyond the program's limits, which no run
+// comes to (law run-within of steps).
 pub fn asked(s: &[u8], g: Session) -> Request
     ensures { λ r. ⌜ r ≡ requestOf (now (s .entry)) g ⌝ }
 {

@@ -13,7 +13,7 @@ use Rattle.result.specs.Places.{entries}
 use Rattle.result.specs.declared.ResultSet.{ResultSet}
 use Rattle.result.specs.declared.Fed.{Fed}
 
--- well formed: k at most 256, the length at most k, no NaN held, every bit zero past the length
+-- well formed: k no more than 256, the length no more than k, no score NaN, and zero bits alone behind the last entry
 unfoldable pub wellFormed : ResultSet → Bool
 wellFormed s =
     leb (s .k) 256 and leb (s .len) (s .k) and allOf isHeld (take (s .len) (s .sims)) and allOf isBlank (drop (s .len) (s .sims))

@@ -12,7 +12,7 @@ ghost use Rattle.result.specs.Laws.{Laws};
 pub mod inner;
 
 // The list: the first len places of ids and sims, best first; k is how many it may hold, and checked counts the entries fed to it.
-// Well formed: k at most 256, len at most k, no NaN held, every bit zero past len.
+// Well formed: k no more than 256, len no more than k, no score NaN, and zero bits alone behind the last entry.
 pub struct ResultSet {
     pub ids: [u32; 256],
     pub sims: [f32; 256],
@@ -240,7 +240,7 @@ impl ResultSet {
         fed.refusal
     }
 
-    // The pairs of equal ids within the first `at` of both lists, divided by `at`, all as f64. Refuses 13 where either set isn't well formed,
+    // How many pairs the first `at` entries of the two lists have with one id, over `at`, all as f64. Refuses 13 where either set isn't well formed,
     // then 14 for an `at` of 0; a refused recall tells +0.0.
     pub fn compute_recall(self, baseline: ResultSet, at: u32) -> Recall
         ensures { λ r. ⌜ toldBy r ≡ recallOf self baseline at ⌝ }

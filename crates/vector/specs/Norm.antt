@@ -1,4 +1,4 @@
--- Normalising (01, "Vectors"): each component divided by the root of the dot product with itself. Definitions only.
+-- Normalising (01, "Vectors"): each component divided by the norm. Definitions only.
 use Prim.Native.Nat.{ℕ}
 use mathlib.Core.Bool.{Bool, not}
 use mathlib.Core.List.{List, map}
@@ -9,7 +9,7 @@ use Rattle.sqrt.specs.RootOf.{root}
 use Rattle.vector.specs.Fold.{dotOf, zero32}
 use Rattle.vector.specs.Finite.{isFinite, every, allFinite}
 
--- the root of the dot product with itself. (`root` is the float nearest to the root: law `root-nearest` of crate sqrt.)
+-- the norm: the root of a vector's dot product with itself. (`root` is the float nearest to the root: law `root-nearest` of crate sqrt.)
 unfoldable pub normOf : List Float → Float
 normOf xs = root (dotOf xs xs)
 

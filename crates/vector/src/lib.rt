@@ -86,7 +86,7 @@ fn divide_all(vec: &mut [f32], norm: f32)
     }
 }
 
-// Divides each component by the root of the dot product with itself. Refuses 5 for a component that is not finite, then 6 for a norm that is
+// Divides each component by the norm, the root of the vector's dot product with itself. Refuses 5 for a component that is not finite, then 6 for a norm that is
 // zero or not finite or a quotient that is not finite. A refusal leaves the vector as it was: the quotients are tried before the first is written.
 pub fn normalize(vec: &mut [f32]) -> u32
     ensures { λ r. ⌜ normal r (now (vec .exit)) ≡ normal (normNumber (now (vec .entry))) (normalized (now (vec .entry))) ⌝ }

@@ -44,7 +44,7 @@ pub fn sqrt(x: f32) -> f32 {
     f32::from_bits(calls::sqrt(x.to_bits()))
 }
 
-/// The bits of the bf16 of the binary32 with these bits: to nearest, ties to even. A NaN keeps its upper half, with bit 0040 set.
+/// The bits of the bf16 of the binary32 with these bits: the nearest, of two as near the even one. Of a NaN it is the upper half and bit 0040.
 ///
 /// ```
 /// assert_eq!(bbqvec::lower(0x3F81_8000), 0x3F82);

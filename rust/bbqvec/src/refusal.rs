@@ -20,7 +20,7 @@ pub enum Refusal {
     K,
     /// 5: a component of a given vector, target or basis is infinite or NaN.
     NotFinite,
-    /// 6: a norm is zero or not finite, or a component is not finite once it is divided.
+    /// 6: a vector cannot be brought to length 1: its norm is 0 or not finite, or a quotient is not finite.
     NoNorm,
     /// 7: an entry of a projection on a basis is not finite.
     Projection,
@@ -111,7 +111,7 @@ impl Refusal {
             Refusal::Id => "the id is not below the capacity",
             Refusal::K => "more than 256 entries were asked for",
             Refusal::NotFinite => "a component is not finite",
-            Refusal::NoNorm => "a norm is zero or not finite, or a component is not finite once it is divided",
+            Refusal::NoNorm => "a vector cannot be brought to length 1: its norm is 0 or not finite, or a quotient is not finite",
             Refusal::Projection => "an entry of a projection is not finite",
             Refusal::NoLayer => "no counting layer has as many ids as asked for",
             Refusal::NoMark => "a candidate has no present mark",

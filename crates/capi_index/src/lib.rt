@@ -27,8 +27,8 @@ pub extern "C" fn bbq_new(
     index_memory::new_vector_store(faces, marks, vectors, d, n, cap, mode)
 }
 
-// Puts a vector into the index under an id (adding::add_vector). Refuses 1, 2, 3, 5, 6, 7. No refusal changes the index, and 1 to 5 change nothing at
-// all; past them the work memory is +0.0 throughout.
+// Puts a vector into the index under an id (adding::add_vector). Refuses 1, 2, 3, 5, 6, 7. A refused addition leaves the index
+// as it was. 1 to 5 leave the work memory too; after anything else it is +0.0 throughout.
 #[no_mangle]
 pub extern "C" fn bbq_add_vector(
     bases: &[f32],

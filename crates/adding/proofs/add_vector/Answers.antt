@@ -1,0 +1,24 @@
+-- `adding::add_vector` meets its contract. Assumes nothing.
+use Prim.Native.Nat.{ℕ}
+use mathlib.Core.Path.{◌∙◌, sym, ap}
+use borrow.Author.Tests.{not-true, not-false}
+use Rattle.paper.specs.Geometry.{geo}
+use Rattle.index_memory.specs.Memory.{floatZeros}
+use Rattle.adding.proofs.Shape.{shaped-by}
+use Rattle.adding.proofs.Cases.{shape-refused, five-refused, late-done}
+use borrow.Author.Rules.{rules}
+use Rattle.adding.proofs.add_vector.Goals as goal
+
+pub returns-then-s-ne0 : goal.returns-then-s-ne0
+returns-then-s-ne0 c = shape-refused _ _ _ _ _ _ _ c.shape_refusal-s.ensures c.if-s-ne0.true
+
+pub returns-then-not-all_finite : goal.returns-then-not-all_finite
+returns-then-not-all_finite c = five-refused _ _ _ _ _ _ _ c.shape_refusal-s.ensures c.if-s-ne0.false (sym c.all_finite.ensures ∙ not-true _ c.if-not-all_finite.true-raw)
+
+pub check_and_write-r-requires : goal.check_and_write-r-requires
+check_and_write-r-requires c = let a = c.args in shaped-by (geo a.d a.n a.cap a.mode) a.id _ _ _ _ _ _ _ c.shape_refusal-s.ensures c.if-s-ne0.false
+
+pub returns : goal.returns
+returns c =
+    late-done _ _ _ _ _ _ _ _ _ _ c.shape_refusal-s.ensures c.if-s-ne0.false (sym c.all_finite.ensures ∙ not-false _ c.if-not-all_finite.false-raw) c.check_and_write-r.ensures.0 c.check_and_write-r.ensures.1
+    (c.clear_floats.ensures ∙ ap (λ (k : ℕ). floatZeros k) c.check_and_write-r.auto.work)

@@ -1,0 +1,15 @@
+use Prim.Native.Nat.{ℕ, ◌+◌, ◌-◌, ◌≤◌, ◌<◌}
+use mathlib.Core.Path.{◌≡◌, ◌∙◌, refl}
+use mathlib.Core.List.{◌++◌}
+use native.Mathlib.Omega.{arith}
+use borrow.Author.Rules.{rules}
+use lib.ListN.{length, take, drop, length-set}
+use Rattle.paper.proofs.Copies.{copy_more}
+use Rattle.adding.proofs.Turns.{copy-all}
+use Rattle.adding.proofs.copy_into.Given as goal
+
+abbrev pub invariant-loop-i : goal.invariant-loop-i
+invariant-loop-i l = (l.i ≤ length l.v) × (length l.work ≡ length l.v) × (l.work ≡ take l.i l.v ++ drop l.i l.initial.work)
+
+abbrev pub decreases-loop-i : goal.decreases-loop-i
+decreases-loop-i l = length l.v - l.i

@@ -1,0 +1,18 @@
+-- `adding::lent_lengths_ok` meets its contract. Assumes nothing.
+use mathlib.Core.Path.{sym, ◌∙◌}
+use borrow.Author.Rules.{rules}
+use borrow.Author.Tests.{eq-eqb, ne_eqb, not-true, not-false}
+use Rattle.adding.specs.Adding.{lentOk}
+use Rattle.adding.proofs.lent_lengths_ok.Goals as goal
+
+pub returns-then-not-bases_length_ok : goal.returns-then-not-bases_length_ok
+unfolding lentOk
+returns-then-not-bases_length_ok c = simp (sym c.bases_length_ok.ensures ∙ not-true _ c.if-not-bases_length_ok.true-raw)
+
+pub returns-then-work-d : goal.returns-then-work-d
+unfolding lentOk
+returns-then-work-d c = simp (sym c.bases_length_ok.ensures ∙ not-false _ c.if-not-bases_length_ok.false-raw, ne_eqb _ _ c.if-work-d.true)
+
+pub returns : goal.returns
+unfolding lentOk
+returns c = simp (sym c.bases_length_ok.ensures ∙ not-false _ c.if-not-bases_length_ok.false-raw, eq-eqb _ _ c.if-work-d.false)

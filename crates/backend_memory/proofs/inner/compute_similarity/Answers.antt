@@ -1,0 +1,6 @@
+-- `backend_memory::inner::compute_similarity` meets its contract. Assumes nothing.
+use borrow.Author.Rules.{rules}
+use Rattle.backend_memory.proofs.inner.compute_similarity.Goals as goal
+
+pub returns : goal.returns
+returns c = c.sqrt.ensures

@@ -1,0 +1,8 @@
+-- `backend_memory::inner::find_nearest` meets its contract: ranking the marks by themselves asks for no mark. Assumes nothing.
+use mathlib.Core.Path.{◌∙◌}
+use Rattle.backend_memory.proofs.Counts.{scan-ranks}
+use borrow.Author.Rules.{rules}
+use Rattle.backend_memory.proofs.inner.find_nearest.Goals as goal
+
+pub returns : goal.returns
+returns c = let a = c.args in c.rank.ensures ∙ scan-ranks a.mode a.k a.marks.now a.vectors.now a.target.now

@@ -1,0 +1,34 @@
+-- `backend_memory::scan_refusal` meets its contract. Assumes nothing.
+use mathlib.Core.Path.{◌∙◌, sym}
+use borrow.Author.Tests.{not-true, not-false, le-leb, lt-leb, eq-eqb, ne_eqb}
+use Rattle.paper.proofs.Geometry.{geo-facts}
+use Rattle.backend_memory.specs.Scan.{scanRefusal}
+use borrow.Author.Rules.{rules}
+use Rattle.backend_memory.proofs.scan_refusal.Goals as goal
+
+pub returns-then-not-geometry_ok : goal.returns-then-not-geometry_ok
+unfolding scanRefusal
+returns-then-not-geometry_ok c = simp (sym c.geometry_ok.ensures ∙ not-true _ c.if-not-geometry_ok.true-raw)
+
+pub store_lengths_ok-requires : goal.store_lengths_ok-requires
+store_lengths_ok-requires c = let f = geo-facts _ _ _ _ (sym c.geometry_ok.ensures ∙ not-false _ c.if-not-geometry_ok.false-raw) in (f.d-high, f.cap-high)
+
+pub returns-then-not-store_lengths_ok : goal.returns-then-not-store_lengths_ok
+unfolding scanRefusal
+returns-then-not-store_lengths_ok c = simp (sym c.geometry_ok.ensures ∙ not-false _ c.if-not-geometry_ok.false-raw, sym c.store_lengths_ok.ensures ∙ not-true _ c.if-not-store_lengths_ok.true-raw)
+
+pub returns-then-target-d : goal.returns-then-target-d
+unfolding scanRefusal
+returns-then-target-d c = simp (sym c.geometry_ok.ensures ∙ not-false _ c.if-not-geometry_ok.false-raw, sym c.store_lengths_ok.ensures ∙ not-false _ c.if-not-store_lengths_ok.false-raw, ne_eqb _ _ c.if-target-d.true)
+
+pub returns-then-k-gt256 : goal.returns-then-k-gt256
+unfolding scanRefusal
+returns-then-k-gt256 c = simp (sym c.geometry_ok.ensures ∙ not-false _ c.if-not-geometry_ok.false-raw, sym c.store_lengths_ok.ensures ∙ not-false _ c.if-not-store_lengths_ok.false-raw, eq-eqb _ _ c.if-target-d.false, lt-leb _ _ c.if-k-gt256.true)
+
+pub returns-then-not-all_finite : goal.returns-then-not-all_finite
+unfolding scanRefusal
+returns-then-not-all_finite c = simp (sym c.geometry_ok.ensures ∙ not-false _ c.if-not-geometry_ok.false-raw, sym c.store_lengths_ok.ensures ∙ not-false _ c.if-not-store_lengths_ok.false-raw, eq-eqb _ _ c.if-target-d.false, le-leb _ _ c.if-k-gt256.false, sym c.all_finite.ensures ∙ not-true _ c.if-not-all_finite.true-raw)
+
+pub returns : goal.returns
+unfolding scanRefusal
+returns c = simp (sym c.geometry_ok.ensures ∙ not-false _ c.if-not-geometry_ok.false-raw, sym c.store_lengths_ok.ensures ∙ not-false _ c.if-not-store_lengths_ok.false-raw, eq-eqb _ _ c.if-target-d.false, le-leb _ _ c.if-k-gt256.false, sym c.all_finite.ensures ∙ not-false _ c.if-not-all_finite.false-raw)

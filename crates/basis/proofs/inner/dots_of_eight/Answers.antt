@@ -1,0 +1,34 @@
+-- `basis::inner::dots_of_eight` meets its contract. Assumes nothing.
+use borrow.Author.Rules.{rules}
+use Prim.Native.Nat.{◌+◌, ◌-◌, ◌*◌, ◌≤◌}
+use mathlib.Core.Path.{◌≡◌, refl, sym, ◌∙◌}
+use native.Mathlib.Omega.{arith}
+use native.Mathlib.Nat.{add-zero}
+use lib.ListN.{length, drop}
+use Rattle.basis.specs.Four.{foldFour, dotFour}
+use Rattle.basis.proofs.Sides.{four-start, four-next, four-end}
+use Rattle.basis.proofs.inner.dots_of_eight.Goals as goal
+
+pub loop-i-init : goal.loop-i-init
+loop-i-init c = (search rules, rw add-zero (four-start c.args.target.now c.args.basis.now c.args.at), rw add-zero (four-start c.args.target.now c.args.basis.now (c.args.at + 4 * length c.args.target.now)), refl)
+
+pub loop-i-preserved : goal.loop-i-preserved
+loop-i-preserved c =
+    (search rules, sym c.block-t.ensures ∙ c.loop-i.invariant.1, sym c.block-u.ensures ∙ c.loop-i.invariant.2, c.loop-i.invariant.3)
+
+pub loop-i-2-init : goal.loop-i-2-init
+loop-i-2-init c = c.loop-i.invariant
+
+pub loop-i-2-preserved : goal.loop-i-2-preserved
+loop-i-2-preserved c = (
+  search rules,
+  sym (four-next c.args.target.now c.args.basis.now c.args.at (length c.args.target.now) c.loop-i-2.t c.column-t.result c.loop-i-2.i (c.loop-i-2.i + 1) refl (omega arith) (omega arith) c.column-t.ensures) ∙ c.loop-i-2.invariant.1,
+  sym (four-next c.args.target.now c.args.basis.now (c.args.at + 4 * length c.args.target.now) (length c.args.target.now) c.loop-i-2.u c.column-u.result c.loop-i-2.i (c.loop-i-2.i + 1) refl (omega arith) (omega arith) c.column-u.ensures) ∙ c.loop-i-2.invariant.2,
+  c.loop-i-2.invariant.3,
+)
+
+pub returns : goal.returns
+returns c = (
+  sym (four-end c.args.target.now c.args.basis.now c.args.at (length c.args.target.now) c.loop-i-2.t c.loop-i-2.i (c.args.at + c.loop-i-2.i) (omega arith)) ∙ c.loop-i-2.invariant.1,
+  sym (four-end c.args.target.now c.args.basis.now (c.args.at + 4 * length c.args.target.now) (length c.args.target.now) c.loop-i-2.u c.loop-i-2.i ((c.args.at + 4 * length c.args.target.now) + c.loop-i-2.i) (omega arith)) ∙ c.loop-i-2.invariant.2,
+)

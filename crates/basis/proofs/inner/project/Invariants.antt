@@ -1,0 +1,16 @@
+use borrow.Author.Rules.{rules}
+use Prim.Native.Nat.{◌+◌, ◌-◌, ◌≤◌}
+use mathlib.Core.Path.{◌≡◌, sym, ◌∙◌}
+use mathlib.Core.List.{◌++◌}
+use native.Mathlib.Nat.{add-sub_cancel_left}
+use native.Mathlib.Omega.{arith}
+use lib.ListN.{length, take, length-set}
+use Rattle.basis.specs.Project.{rows_from, projected}
+use Rattle.basis.proofs.Sides.{rows-within, project-step, project-end}
+use Rattle.basis.proofs.inner.project.Given as goal
+
+abbrev pub invariant-loop-r : goal.invariant-loop-r
+invariant-loop-r l = (length l.work ≡ length l.target) × (l.r ≤ length l.target) × (take l.r l.work ++ rows_from l.basis l.target l.r ≡ projected l.basis l.target)
+
+abbrev pub decreases-loop-r : goal.decreases-loop-r
+decreases-loop-r l = length l.target - l.r

@@ -1,0 +1,15 @@
+use borrow.Author.Rules.{rules}
+use Prim.Native.Nat.{◌+◌, ◌-◌, ◌≤◌}
+use mathlib.Core.Path.{◌≡◌, refl, ◌∙◌}
+use mathlib.Core.List.{◌++◌}
+use native.Mathlib.Omega.{arith}
+use lib.ListN.{length, take}
+use Rattle.basis.specs.Project.{rows_from}
+use Rattle.basis.proofs.Sides.{rows-within, project-four}
+use Rattle.basis.proofs.inner.rows_by_four.Given as goal
+
+abbrev pub invariant-loop-r : goal.invariant-loop-r
+invariant-loop-r l = (length l.work ≡ length l.target) × (l.r ≤ length l.target) × (take l.r l.work ++ rows_from l.basis l.target l.r ≡ take l.from l.initial.work ++ rows_from l.basis l.target l.from)
+
+abbrev pub decreases-loop-r : goal.decreases-loop-r
+decreases-loop-r l = length l.target - l.r

@@ -1,0 +1,15 @@
+use borrow.Author.Rules.{rules}
+use borrow.Author.Fill.{fill_none, fill_more}
+use Prim.Native.Nat.{◌≤◌, ◌-◌}
+use mathlib.Core.Path.{◌≡◌, refl, ◌∙◌}
+use mathlib.Core.List.{◌++◌, append-nil}
+use native.Mathlib.Omega.{arith}
+use lib.ListN.{length, drop, replicate, length-set}
+use lib.Seq.{drop-length}
+use Rattle.bitmaps.proofs.inner.clear.Given as goal
+
+abbrev pub invariant-loop-at : goal.invariant-loop-at
+invariant-loop-at l = (l.at ≤ length l.initial.a) × (length l.a ≡ length l.initial.a) × (l.a ≡ replicate l.at 0 ++ drop l.at l.initial.a)
+
+abbrev pub decreases-loop-at : goal.decreases-loop-at
+decreases-loop-at l = length l.initial.a - l.at

@@ -1,0 +1,14 @@
+use Prim.Native.Nat.{◌≤◌, ◌-◌}
+use mathlib.Core.Path.{◌≡◌, refl, ◌∙◌}
+use native.Mathlib.Omega.{arith}
+use borrow.Author.Rules.{rules}
+use lib.ListN.{length, length-set}
+use lib.Bits.{bit_xor}
+use Rattle.bitmaps.proofs.Zip.{byWordTo, byWordTo-more, byWordTo-all}
+use Rattle.bitmaps.proofs.inner.xor.Given as goal
+
+abbrev pub invariant-loop-i : goal.invariant-loop-i
+invariant-loop-i l = (l.i ≤ length l.initial.a) × (length l.a ≡ length l.initial.a) × (l.a ≡ byWordTo bit_xor l.i l.initial.a l.b)
+
+abbrev pub decreases-loop-i : goal.decreases-loop-i
+decreases-loop-i l = length l.initial.a - l.i

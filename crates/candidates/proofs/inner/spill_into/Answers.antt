@@ -1,0 +1,66 @@
+-- `candidates::inner::spill_into` meets its contract: what is left to pick gives the whole set. Assumes nothing.
+-- the slot is one of the basis's
+-- its face set is within the basis's
+use borrow.Author.Rules.{rules}
+use native.Mathlib.Omega.{arith}
+use Prim.Native.Nat.{◌≤◌, ◌<◌, ◌-◌, ◌*◌, ◌+◌}
+use mathlib.Core.Path.{◌≡◌, refl, ◌∙◌, ap, sym}
+use mathlib.Core.Bool.{true}
+use lib.ListN.{length, take, drop}
+use Rattle.index_memory.proofs.Places.{part_end, part-long}
+use Rattle.vector.specs.Finite.{allFinite}
+use Rattle.faces.specs.Slots.{slots}
+use Rattle.faces.proofs.Slots.{finite-picked}
+use Rattle.candidates.specs.Gathering.{joined}
+use Rattle.candidates.proofs.Spills.{spill-turn, spill-end}
+use Rattle.candidates.proofs.inner.spill_into.Goals as goal
+use Rattle.candidates.proofs.inner.spill_into.Tie as tie
+
+pub loop-i-init : goal.loop-i-init
+loop-i-init c =
+    let e : c.args.picks - 0 ≡ c.args.picks = omega arith in
+    (search rules, search rules, search rules, c.requires.facable.finite, rw e)
+
+pub pick-slot-requires : goal.pick-slot-requires
+pick-slot-requires c = record { some = omega (arith, c.requires.facable.some, c.loop-i.invariant.1); few = omega (arith, c.requires.facable.few, c.loop-i.invariant.1); finite = c.loop-i.invariant.3 }
+
+slot-low : (c : tie.After-pick-slot invariant-loop decreases-loop) → c.pick-slot.result < 2 * length c.args.work.now
+slot-low c = omega (arith, c.pick-slot.ensures.1, c.loop-i.invariant.1)
+
+slot-end : (c : tie.After-pick-slot invariant-loop decreases-loop) → c.pick-slot.result * length c.args.set.now + length c.args.set.now ≤ length c.args.faces.now
+slot-end c = part_end c.pick-slot.result (2 * length c.args.work.now) (length c.args.set.now) (c.pick-slot.result * length c.args.set.now) c.args.faces.now (slot-low c) refl c.requires.faces
+
+slot-long : (c : tie.After-pick-slot invariant-loop decreases-loop) → length (take (c.pick-slot.result * length c.args.set.now + length c.args.set.now - c.pick-slot.result * length c.args.set.now) (drop (c.pick-slot.result * length c.args.set.now) c.args.faces.now)) ≡ length c.args.set.now
+slot-long c = part-long c.pick-slot.result (2 * length c.args.work.now) (length c.args.set.now) (c.pick-slot.result * length c.args.set.now) c.args.faces.now (slot-low c) refl c.requires.faces
+
+pub overflow_mul-a : goal.overflow_mul-a
+overflow_mul-a c = omega (arith, slot-end c, c.well-formed)
+
+pub overflow_add-e : goal.overflow_add-e
+overflow_add-e c = omega (arith, slot-end c, c.well-formed)
+
+pub offset_bounds-faces-a : goal.offset_bounds-faces-a
+offset_bounds-faces-a c = omega (arith, slot-end c, c.well-formed)
+
+pub slice_bounds-or-end : goal.slice_bounds-or-end
+slice_bounds-or-end c = omega (arith, slot-end c)
+
+pub or-requires : goal.or-requires
+or-requires c = omega (arith, slot-long c, c.loop-i.invariant.2)
+
+pub loop-i-preserved : goal.loop-i-preserved
+loop-i-preserved c =
+    let a = c.args in
+    let l = c.loop-i in
+    let turn = spill-turn a.picks l.i (length a.set.now) c.pick-slot.result a.faces.now l.work c.pick-slot.new.work l.set c.or.new.a c.loop-i-test.true c.pick-slot.ensures.0 c.pick-slot.ensures.2 c.or.ensures in (
+      omega (arith, c.loop-i-test.true),
+      omega (arith, c.pick-slot.auto.work, l.invariant.1),
+      omega (arith, c.or.auto.a, l.invariant.2),
+      ap allFinite c.pick-slot.ensures.2 ∙ finite-picked l.work l.invariant.3,
+      turn ∙ l.invariant.4,
+    )
+
+pub returns : goal.returns
+returns c =
+    let l = c.loop-i in
+    sym (spill-end c.args.picks l.i (length c.args.set.now) c.args.faces.now l.work l.set c.loop-i-test.false) ∙ l.invariant.4

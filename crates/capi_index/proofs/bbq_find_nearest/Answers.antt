@@ -1,0 +1,74 @@
+-- `capi_index::bbq_find_nearest` meets its contract. Assumes nothing.
+use mathlib.Core.Path.{sym, ◌∙◌}
+use borrow.Author.Tests.{not-true, not-false}
+use Rattle.paper.specs.Geometry.{geo}
+use Rattle.index_memory.specs.Memory.{ixOf}
+use Rattle.vector_store.specs.Search.{works}
+use Rattle.capi_sets.specs.Lists.{outs}
+use Rattle.capi_sets.proofs.Lists.{room}
+use Rattle.capi_index.proofs.Cases.{search-fits, search-geometry, search-room, search-into}
+use Rattle.capi_index.proofs.bbq_find_nearest.Goals as goal
+
+pub geometry_ok-requires : goal.geometry_ok-requires
+geometry_ok-requires c = tt
+
+pub returns-then-not-geometry_ok : goal.returns-then-not-geometry_ok
+returns-then-not-geometry_ok c =
+    let a = c.args in
+    let g = geo a.d a.n a.cap a.mode in
+    let ix = ixOf a.faces.now a.marks.now a.vectors.now in
+    let m = works a.work.now a.layers.now a.set.now in
+    let o = outs a.ids.now a.scores.now a.told.now in
+    search-geometry g a.bases.now ix a.target.now a.k a.search-k a.spill m o (sym c.geometry_ok.ensures ∙ not-true _ c.if-not-geometry_ok.true-raw)
+
+pub room_ok-requires : goal.room_ok-requires
+room_ok-requires c = tt
+
+pub returns-then-not-room_ok : goal.returns-then-not-room_ok
+returns-then-not-room_ok c =
+    let a = c.args in
+    let g = geo a.d a.n a.cap a.mode in
+    let ix = ixOf a.faces.now a.marks.now a.vectors.now in
+    let m = works a.work.now a.layers.now a.set.now in
+    let o = outs a.ids.now a.scores.now a.told.now in
+    search-room g a.bases.now ix a.target.now a.k a.search-k a.spill m o (sym c.geometry_ok.ensures ∙ not-false _ c.if-not-geometry_ok.false-raw) (sym c.room_ok.ensures ∙ not-true _ c.if-not-room_ok.true-raw)
+
+pub find_nearest-nearest-requires : goal.find_nearest-nearest-requires
+find_nearest-nearest-requires c = tt
+
+pub put_nearest-requires : goal.put_nearest-requires
+put_nearest-requires c =
+    let a = c.args in
+    let g = geo a.d a.n a.cap a.mode in
+    let ix = ixOf a.faces.now a.marks.now a.vectors.now in
+    let m = works a.work.now a.layers.now a.set.now in
+    let r = room _ _ _ _ _ (sym c.room_ok.ensures ∙ not-false _ c.if-not-room_ok.false-raw) in
+    (search-fits g a.bases.now ix a.target.now a.k a.search-k a.spill m _ _ _ c.find_nearest-nearest.ensures r.ids r.scores, r.told)
+
+pub shape_of-work : goal.shape_of-work
+shape_of-work c = c.find_nearest-nearest.auto.work
+
+pub shape_of-layers : goal.shape_of-layers
+shape_of-layers c = c.find_nearest-nearest.auto.layers
+
+pub shape_of-set : goal.shape_of-set
+shape_of-set c = c.find_nearest-nearest.auto.set
+
+pub shape_of-ids : goal.shape_of-ids
+shape_of-ids c = c.put_nearest.auto.scores
+
+pub shape_of-scores : goal.shape_of-scores
+shape_of-scores c = c.put_nearest.auto.told
+
+pub shape_of-told : goal.shape_of-told
+shape_of-told c = c.put_nearest.auto.1.1.1.0
+
+pub returns : goal.returns
+returns c =
+    let a = c.args in
+    let g = geo a.d a.n a.cap a.mode in
+    let ix = ixOf a.faces.now a.marks.now a.vectors.now in
+    let m = works a.work.now a.layers.now a.set.now in
+    let o = outs a.ids.now a.scores.now a.told.now in
+    search-into g a.bases.now ix a.target.now a.k a.search-k a.spill m o _ _ (sym c.geometry_ok.ensures ∙ not-false _ c.if-not-geometry_ok.false-raw) (sym c.room_ok.ensures ∙ not-false _ c.if-not-room_ok.false-raw)
+    c.find_nearest-nearest.ensures c.put_nearest.ensures

@@ -1,0 +1,55 @@
+-- `capi_index::bbq_full_table_scan` meets its contract. Assumes nothing.
+use mathlib.Core.Path.{sym, ◌∙◌}
+use borrow.Author.Tests.{not-true, not-false}
+use Rattle.paper.specs.Geometry.{geo}
+use Rattle.capi_sets.specs.Lists.{outs}
+use Rattle.capi_sets.proofs.Lists.{room}
+use Rattle.capi_index.proofs.Cases.{scan-fits, scan-geometry, scan-room, scan-into}
+use Rattle.capi_index.proofs.bbq_full_table_scan.Goals as goal
+
+pub geometry_ok-requires : goal.geometry_ok-requires
+geometry_ok-requires c = tt
+
+pub returns-then-not-geometry_ok : goal.returns-then-not-geometry_ok
+returns-then-not-geometry_ok c =
+    let a = c.args in
+    let g = geo a.d a.n a.cap a.mode in
+    let o = outs a.ids.now a.scores.now a.told.now in
+    scan-geometry g a.marks.now a.vectors.now a.target.now a.k o (sym c.geometry_ok.ensures ∙ not-true _ c.if-not-geometry_ok.true-raw)
+
+pub room_ok-requires : goal.room_ok-requires
+room_ok-requires c = tt
+
+pub returns-then-not-room_ok : goal.returns-then-not-room_ok
+returns-then-not-room_ok c =
+    let a = c.args in
+    let g = geo a.d a.n a.cap a.mode in
+    let o = outs a.ids.now a.scores.now a.told.now in
+    scan-room g a.marks.now a.vectors.now a.target.now a.k o (sym c.geometry_ok.ensures ∙ not-false _ c.if-not-geometry_ok.false-raw) (sym c.room_ok.ensures ∙ not-true _ c.if-not-room_ok.true-raw)
+
+pub full_table_scan-fed-requires : goal.full_table_scan-fed-requires
+full_table_scan-fed-requires c = tt
+
+pub put_fed-requires : goal.put_fed-requires
+put_fed-requires c =
+    let a = c.args in
+    let g = geo a.d a.n a.cap a.mode in
+    let r = room _ _ _ _ _ (sym c.room_ok.ensures ∙ not-false _ c.if-not-room_ok.false-raw) in
+    (scan-fits g a.marks.now a.vectors.now a.target.now a.k _ _ _ c.full_table_scan-fed.ensures r.ids r.scores, r.told)
+
+pub shape_of-ids : goal.shape_of-ids
+shape_of-ids c = c.put_fed.auto.scores
+
+pub shape_of-scores : goal.shape_of-scores
+shape_of-scores c = c.put_fed.auto.told
+
+pub shape_of-told : goal.shape_of-told
+shape_of-told c = c.put_fed.auto.1.1.1.0
+
+pub returns : goal.returns
+returns c =
+    let a = c.args in
+    let g = geo a.d a.n a.cap a.mode in
+    let o = outs a.ids.now a.scores.now a.told.now in
+    scan-into g a.marks.now a.vectors.now a.target.now a.k o _ _ (sym c.geometry_ok.ensures ∙ not-false _ c.if-not-geometry_ok.false-raw) (sym c.room_ok.ensures ∙ not-false _ c.if-not-room_ok.false-raw)
+    c.full_table_scan-fed.ensures c.put_fed.ensures

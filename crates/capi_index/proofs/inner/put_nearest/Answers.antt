@@ -1,0 +1,36 @@
+-- `capi_index::inner::put_nearest` meets its contract. Assumes nothing.
+use borrow.Author.Rules.{rules}
+use native.Mathlib.Omega.{arith}
+use Rattle.capi_sets.specs.Lists.{outs}
+use Rattle.capi_index.proofs.Cases.{nearest-kept, nearest-laid}
+use Rattle.capi_index.proofs.inner.put_nearest.Goals as goal
+
+pub returns-then-nearest-ne0 : goal.returns-then-nearest-ne0
+returns-then-nearest-ne0 c = let a = c.args in nearest-kept a.nearest (outs a.ids.now a.scores.now a.told.now) c.if-nearest-ne0.true
+
+pub copy_ids-requires : goal.copy_ids-requires
+copy_ids-requires c =
+    let F = c.requires.0 c.if-nearest-ne0.false in
+    (omega (arith, F.small), F.ids)
+
+pub copy_scores-requires : goal.copy_scores-requires
+copy_scores-requires c =
+    let F = c.requires.0 c.if-nearest-ne0.false in
+    (omega (arith, F.small), F.scores)
+
+pub overflow_cast-len : goal.overflow_cast-len
+overflow_cast-len c = omega (arith, (c.requires.0 c.if-nearest-ne0.false).small)
+
+pub shape_of-ids : goal.shape_of-ids
+shape_of-ids c = c.copy_ids.auto.1.1.0
+
+pub shape_of-scores : goal.shape_of-scores
+shape_of-scores c = c.copy_scores.auto.1.1.0
+
+pub shape_of-told : goal.shape_of-told
+shape_of-told c = c.tell_three.auto.told
+
+pub returns : goal.returns
+returns c =
+    let a = c.args in
+    nearest-laid a.nearest (outs a.ids.now a.scores.now a.told.now) _ _ _ c.if-nearest-ne0.false c.copy_ids.ensures c.copy_scores.ensures c.tell_three.ensures

@@ -1,0 +1,7 @@
+-- `capi_index::inner::tell_three` meets its contract. Assumes nothing.
+use borrow.Author.Rules.{rules}
+use Rattle.capi_vectors.proofs.Places.{three-places}
+use Rattle.capi_index.proofs.inner.tell_three.Goals as goal
+
+pub returns : goal.returns
+returns c = three-places c.args.told.now _ _ _ c.requires

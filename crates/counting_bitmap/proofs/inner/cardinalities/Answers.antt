@@ -1,0 +1,49 @@
+-- `inner::cardinalities` meets its contract: the first i layers are counted. Assumes nothing.
+-- the next layer is within the layers
+use borrow.Author.Rules.{rules}
+use Prim.Native.Nat.{◌≤◌, ◌-◌, ◌*◌, ◌+◌}
+use mathlib.Core.Path.{◌≡◌, refl, ◌∙◌}
+use mathlib.Core.List.{◌++◌}
+use native.Mathlib.Nat.{mul-le-mul_right}
+use native.Mathlib.Omega.{arith}
+use lib.ListN.{length, length-take, length-set}
+use Rattle.counting_bitmap.specs.Layers.{countsOf, empty}
+use Rattle.counting_bitmap.proofs.Places.{counts-turn}
+use Rattle.counting_bitmap.proofs.inner.cardinalities.Goals as goal
+use Rattle.counting_bitmap.proofs.inner.cardinalities.Tie as tie
+
+room : (c : tie.In-loop-i invariant-loop decreases-loop) → (c.loop-i.i + 1) * c.args.w ≤ c.args.n * c.args.w
+room c = mul-le-mul_right _ (omega arith)
+
+pub loop-i-init : goal.loop-i-init
+unfolding countsOf
+loop-i-init c = (search rules, omega arith, refl, refl)
+
+pub overflow_add-at : goal.overflow_add-at
+overflow_add-at c = omega (arith, room c)
+
+pub offset_bounds-layers-at : goal.offset_bounds-layers-at
+offset_bounds-layers-at c = omega (arith, room c)
+
+pub slice_bounds-count-end : goal.slice_bounds-count-end
+slice_bounds-count-end c = omega (arith, room c)
+
+pub count-requires : goal.count-requires
+count-requires c = rw length-take (omega arith)
+
+pub overflow_add-at-in-loop-i : goal.overflow_add-at-in-loop-i
+overflow_add-at-in-loop-i c = omega (arith, room c)
+
+pub loop-i-preserved : goal.loop-i-preserved
+loop-i-preserved c =
+    let l = c.loop-i in (
+      omega arith,
+      omega arith,
+      simp length-set (omega arith),
+      counts-turn l.i c.args.w l.at c.args.layers.now l.counts c.count.result (omega arith) l.invariant.1 l.invariant.3 c.count.ensures,
+    )
+
+pub returns : goal.returns
+returns c =
+    let past : c.loop-i.i ≡ c.args.n = omega arith in
+    c.loop-i.invariant.3 ∙ rw past

@@ -1,0 +1,57 @@
+-- `inner::carry` meets its contract: the first i words are done, and `any` holds a digit exactly if one of them is carried on. Assumes nothing.
+use borrow.Author.Rules.{rules}
+use Prim.Native.Nat.{ℕ, ◌≤◌, ◌<◌, ◌-◌}
+use mathlib.Core.Bool.{not}
+use mathlib.Core.Path.{◌≡◌, refl, ap, sym, ◌∙◌}
+use native.Mathlib.Omega.{arith}
+use native.Mathlib.Numerals.{add-one}
+use lib.Dec.{eqb}
+use lib.ListN.{length, take, length-set}
+use lib.Seq.{take-length}
+use lib.Bits.{bit_and, bit_or}
+use Rattle.bitmaps.specs.Words.{size, is_empty, shared}
+use Rattle.bitmaps.proofs.Digits.{byWord-at}
+use Rattle.bitmaps.proofs.Zip.{byWordTo, byWordTo-at, byWordTo-suc, byWordTo-all, byWord-length, byWord-flip}
+use Rattle.counting_bitmap.proofs.Stop.{any-more}
+use Rattle.counting_bitmap.proofs.inner.carry.Goals as goal
+
+abbrev flipped : ℕ → ℕ → ℕ
+flipped x y = bit_and y x
+
+pub loop-i-init : goal.loop-i-init
+unfolding byWordTo size
+loop-i-init c = (search rules, refl, refl, refl, refl, refl)
+
+pub loop-i-preserved : goal.loop-i-preserved
+loop-i-preserved c =
+    let l = c.loop-i in
+    let ls = c.args.layer.now in
+    let cs = c.args.cur.now in
+    let a : l.i < length ls = omega arith in
+    let d : l.i < length cs = omega arith in
+    let same : length ls ≡ length cs = c.requires in
+    let long : l.i < length (shared ls cs) = rw (byWord-length bit_and ls cs) a in (
+      omega arith,
+      simp length-set (omega arith),
+      simp length-set (omega arith),
+      rw (l.invariant.3, l.invariant.4, byWordTo-at bit_or l.i ls cs, byWordTo-at flipped l.i cs ls, add-one) (byWordTo-suc bit_or l.i ls cs a d),
+      rw (l.invariant.3, l.invariant.4, byWordTo-at bit_or l.i ls cs, byWordTo-at flipped l.i cs ls, add-one) (byWordTo-suc flipped l.i cs ls d a),
+      any-more l.any l.i _ (shared ls cs) long
+          (rw (l.invariant.3, l.invariant.4, byWordTo-at bit_or l.i ls cs, byWordTo-at flipped l.i cs ls) (sym (byWord-at bit_and refl ls cs same l.i)))
+          l.invariant.5,
+    )
+
+pub returns : goal.returns
+returns c =
+    let l = c.loop-i in
+    let ls = c.args.layer.now in
+    let cs = c.args.cur.now in
+    let same : length ls ≡ length cs = c.requires in
+    let past : l.i ≡ length ls = omega arith in
+    let past' : l.i ≡ length cs = omega arith in
+    let whole : take l.i (shared ls cs) ≡ shared ls cs = rw (past ∙ sym (byWord-length bit_and ls cs)) (take-length (shared ls cs)) in
+    record {
+      united = l.invariant.3 ∙ rw past (byWordTo-all bit_or ls cs);
+      carry = l.invariant.4 ∙ rw past' (byWordTo-all flipped cs ls) ∙ byWord-flip bit_and ls cs same;
+      some = ap not (l.invariant.5 ∙ ap is_empty whole);
+    }

@@ -1,0 +1,24 @@
+use borrow.Author.Rules.{rules}
+use Prim.Native.Nat.{ℕ, ◌≤◌, ◌<◌, ◌-◌}
+use mathlib.Core.Bool.{not}
+use mathlib.Core.Path.{◌≡◌, refl, ap, sym, ◌∙◌}
+use native.Mathlib.Omega.{arith}
+use native.Mathlib.Numerals.{add-one}
+use lib.Dec.{eqb}
+use lib.ListN.{length, take, length-set}
+use lib.Seq.{take-length}
+use lib.Bits.{bit_and, bit_or}
+use Rattle.bitmaps.specs.Words.{size, is_empty, shared}
+use Rattle.bitmaps.proofs.Digits.{byWord-at}
+use Rattle.bitmaps.proofs.Zip.{byWordTo, byWordTo-at, byWordTo-suc, byWordTo-all, byWord-length, byWord-flip}
+use Rattle.counting_bitmap.proofs.Stop.{any-more}
+use Rattle.counting_bitmap.proofs.inner.carry.Given as goal
+
+abbrev pub invariant-loop-i : goal.invariant-loop-i
+invariant-loop-i l =
+    (l.i ≤ length l.initial.layer) × (length l.layer ≡ length l.initial.layer) × (length l.cur ≡ length l.initial.cur)
+    × (l.layer ≡ byWordTo bit_or l.i l.initial.layer l.initial.cur) × (l.cur ≡ byWordTo flipped l.i l.initial.cur l.initial.layer)
+    × (eqb l.any 0 ≡ is_empty (take l.i (shared l.initial.layer l.initial.cur)))
+
+abbrev pub decreases-loop-i : goal.decreases-loop-i
+decreases-loop-i l = length l.initial.layer - l.i

@@ -1,0 +1,38 @@
+-- `inner::top_part` meets its contract. Assumes nothing.
+use borrow.Author.Rules.{rules}
+use Prim.Native.Nat.{◌+◌, ◌*◌, ◌-◌, ◌≤◌}
+use mathlib.Core.Path.{◌≡◌, sym, ap, ◌∙◌}
+use native.Mathlib.Nat.{mul-le-mul_right}
+use native.Mathlib.Omega.{arith}
+use Rattle.counting_bitmap.specs.TopLayer.{part_of}
+use Rattle.counting_bitmap.proofs.Highest.{top-layer-is}
+use Rattle.counting_bitmap.proofs.inner.top_part.Goals as goal
+use Rattle.counting_bitmap.proofs.inner.top_part.Tie as tie
+
+room : (c : tie.In-Layer) → (c.i-1.given.0.0 + 1) * c.args.w ≤ c.args.n * c.args.w
+room c =
+    let args = c.args in
+    let top = top-layer-is args.n args.w args.layers.now args.search-k c.i-1.given.0.0 (sym c.top_layer.ensures ∙ c.i-1.given.1) in
+    mul-le-mul_right _ (omega arith)
+
+pub overflow_mul-a : goal.overflow_mul-a
+overflow_mul-a c = omega (arith, room c)
+
+pub overflow_add-e : goal.overflow_add-e
+overflow_add-e c = omega (arith, room c)
+
+pub offset_bounds-layers-a : goal.offset_bounds-layers-a
+offset_bounds-layers-a c = omega (arith, room c)
+
+pub slice_bounds-result-end : goal.slice_bounds-result-end
+slice_bounds-result-end c = omega (arith, room c)
+
+pub returns-in-Layer : goal.returns-in-Layer
+returns-in-Layer c =
+    let w = c.args.w in
+    let i = c.i-1.given.0.0 in
+    let wide : i * w + w - i * w ≡ w = omega arith in
+    rw wide (ap (part_of _ _) (sym c.i-1.given.1 ∙ c.top_layer.ensures))
+
+pub returns-in-Nothing : goal.returns-in-Nothing
+returns-in-Nothing c = ap (part_of _ _) (sym c.enum_told-1.given.1 ∙ c.top_layer.ensures)

@@ -1,0 +1,21 @@
+use borrow.Author.Rules.{rules}
+use Prim.Native.Nat.{◌+◌, ◌-◌, ◌<◌, ◌≤◌}
+use mathlib.Core.Path.{◌≡◌, refl, sym, ◌∙◌, ap}
+use mathlib.Core.Bool.{true}
+use mathlib.Core.List.{◌++◌}
+use native.Mathlib.Nat.{sub-zero}
+use native.Mathlib.Omega.{arith}
+use lib.ListN.{length, take, drop, length-set}
+use mir.Syntax.{w32}
+use mir.ValLaws.{to_z-of_z}
+use Rattle.vector.specs.Finite.{allFinite}
+use Rattle.faces.specs.Slots.{facesOf, after_of}
+use Rattle.faces.proofs.Slots.{length-picked, finite-picked}
+use Rattle.faces.proofs.Picks.{face-at, picked-at, after-step, faces-step, after-end, faces-end, rest-step, written}
+use Rattle.faces.proofs.inner.pick_faces.Given as goal
+
+abbrev pub invariant-loop-k : goal.invariant-loop-k
+invariant-loop-k l = (length l.projection ≡ length l.initial.projection) × (length l.out ≡ length l.initial.out) × (l.k ≤ l.n) × (allFinite l.projection ≡ true) × (after_of (l.n - l.k) l.projection ≡ after_of l.n l.initial.projection) × (take l.k l.out ++ facesOf (l.n - l.k) l.projection ≡ facesOf l.n l.initial.projection) × (drop l.k l.out ≡ drop l.k l.initial.out)
+
+abbrev pub decreases-loop-k : goal.decreases-loop-k
+decreases-loop-k l = l.n - l.k

@@ -1,0 +1,21 @@
+-- `faces::spill_faces` meets its contract. Assumes nothing.
+use mathlib.Core.Path.{sym, ◌∙◌}
+use native.Mathlib.Omega.{arith}
+use lib.ListN.{length}
+use Rattle.faces.specs.Slots.{HasFace}
+use Rattle.faces.proofs.Slots.{picks-within}
+use Rattle.faces.proofs.Answer.{has-face, spill-refused, spill-done}
+use borrow.Author.Rules.{rules}
+use Rattle.faces.proofs.spill_faces.Goals as goal
+
+pub returns-then-refusal-ne0 : goal.returns-then-refusal-ne0
+returns-then-refusal-ne0 c = spill-refused c.args.spill c.args.projection.now _ c.face_refusal-refusal.ensures c.if-refusal-ne0.true
+
+pub pick_faces-requires : goal.pick_faces-requires
+pick_faces-requires c =
+    let f : HasFace c.args.projection.now = has-face _ (sym c.face_refusal-refusal.ensures ∙ c.if-refusal-ne0.false) in
+    (f, omega (arith, f.few, picks-within (length c.args.projection.now) c.args.spill, c.picks_for-count.ensures))
+
+pub returns : goal.returns
+returns c =
+    spill-done c.args.spill c.args.projection.now _ _ _ (sym c.face_refusal-refusal.ensures ∙ c.if-refusal-ne0.false) c.picks_for-count.ensures c.pick_faces.ensures.0 c.pick_faces.ensures.1

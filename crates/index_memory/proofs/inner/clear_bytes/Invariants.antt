@@ -1,0 +1,14 @@
+use Prim.Native.Nat.{ℕ, ◌+◌, ◌-◌, ◌≤◌, ◌<◌}
+use mathlib.Core.Path.{◌≡◌, ◌∙◌, refl}
+use mathlib.Core.List.{◌++◌}
+use borrow.Author.Rules.{rules}
+use native.Mathlib.Omega.{arith}
+use lib.ListN.{length, replicate, drop, length-set}
+use Rattle.index_memory.proofs.Fill.{fill_more, fill_none, fill-all}
+use Rattle.index_memory.proofs.inner.clear_bytes.Given as goal
+
+abbrev pub invariant-loop-i : goal.invariant-loop-i
+invariant-loop-i l = (l.i ≤ length l.initial.bytes) × (length l.bytes ≡ length l.initial.bytes) × (l.bytes ≡ replicate l.i 0 ++ drop l.i l.initial.bytes)
+
+abbrev pub decreases-loop-i : goal.decreases-loop-i
+decreases-loop-i l = length l.bytes - l.i

@@ -1,0 +1,19 @@
+use Prim.Native.Nat.{ℕ, ◌+◌, ◌*◌, ◌-◌, ◌≤◌}
+use mathlib.Core.Path.{◌≡◌, ◌∙◌, sym, refl, subst}
+use native.Mathlib.Omega.{arith}
+use native.Mathlib.Nat.{mul-le-mul}
+use borrow.Author.Rules.{rules}
+use lib.ListN.{length}
+use Rattle.index_memory.proofs.Places.{place}
+use Rattle.bitmaps.specs.Walk.{NextIs}
+use Rattle.bitmaps.specs.declared.Found.TheVariants.{At, Nothing}
+use Rattle.merging.specs.Merging.{copied}
+use Rattle.merging.proofs.Loops.{copy-turn, copy-end}
+use Rattle.merging.proofs.copy_present.Given as goal
+
+abbrev pub invariant-loop-i : goal.invariant-loop-i
+invariant-loop-i l =
+    (l.at ≤ length l.marks * 64) × (length l.vectors ≡ length l.initial.vectors) × (l.vectors ≡ copied l.size l.at l.marks l.from l.initial.vectors)
+
+abbrev pub decreases-loop-i : goal.decreases-loop-i
+decreases-loop-i l = length l.marks * 64 - l.at

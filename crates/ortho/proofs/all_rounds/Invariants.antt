@@ -1,0 +1,15 @@
+use borrow.Author.Rules.{rules}
+use Prim.Native.Nat.{◌-◌, ◌≤◌}
+use mathlib.Core.Path.{◌≡◌, refl, sym, ◌∙◌}
+use native.Mathlib.Nat.{sub-zero}
+use borrow.Author.Tests.{not-true, not-false}
+use lib.ListN.{length}
+use Rattle.ortho.specs.Ortho.{roundsOf}
+use Rattle.ortho.proofs.Loops.{rounds-fail, rounds-more, rounds-end}
+use Rattle.ortho.proofs.all_rounds.Given as goal
+
+abbrev pub invariant-loop-k : goal.invariant-loop-k
+invariant-loop-k l = (length l.out ≡ length l.initial.out) × (l.k ≤ l.n) × (roundsOf l.d (l.n - l.k) l.out ≡ roundsOf l.d l.n l.initial.out)
+
+abbrev pub decreases-loop-k : goal.decreases-loop-k
+decreases-loop-k l = l.n - l.k

@@ -1,0 +1,21 @@
+-- `ortho::pair` meets its contract. Assumes nothing.
+use borrow.Author.Rules.{rules}
+use mathlib.Core.Path.{◌≡◌, ◌∙◌}
+use mathlib.Core.List.{List}
+use Prim.Native.Nat.{ℕ}
+use lib.Ieee.{Float}
+use Rattle.vector.specs.Fold.{dotOf}
+use Rattle.ortho.specs.Ortho.{row, reduced, normRow, pair_of}
+use Rattle.ortho.proofs.pair.Goals as goal
+
+say : (a b d : ℕ) (xs ys : List Float) (t : Float) → t ≡ dotOf (row a d xs) (row b d xs) → ys ≡ reduced a b d t xs → pair_of a b d xs ≡ normRow b d ys
+unfolding pair_of
+say a b d xs ys t p q = rw (q, p)
+
+pub returns : goal.returns
+returns c =
+    let nr = c in
+    let rr = nr in
+    let dr = rr in
+    let s = dr.args in
+    say s.a s.b s.d s.out.now rr.reduce_row.new.out dr.dot_rows-dot.result dr.dot_rows-dot.ensures rr.reduce_row.ensures ∙ nr.normalize_row.ensures

@@ -1,0 +1,14 @@
+use borrow.Author.Rules.{rules}
+use Prim.Native.Nat.{◌-◌, ◌≤◌}
+use mathlib.Core.Path.{◌≡◌, refl, sym, ◌∙◌}
+use native.Mathlib.Nat.{sub-zero}
+use native.Mathlib.Omega.{arith}
+use lib.ListN.{length, length-set}
+use Rattle.ortho.proofs.Loops.{reducing, reducing-step, reducing-end, reduced-loop}
+use Rattle.ortho.proofs.reduce_row.Given as goal
+
+abbrev pub invariant-loop-k : goal.invariant-loop-k
+invariant-loop-k l = (length l.out ≡ length l.initial.out) × (l.k ≤ l.d) × (reducing l.a l.b l.dot (l.d - l.k) l.k l.out ≡ reducing l.a l.b l.dot l.d 0 l.initial.out)
+
+abbrev pub decreases-loop-k : goal.decreases-loop-k
+decreases-loop-k l = l.d - l.k

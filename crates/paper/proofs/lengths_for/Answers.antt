@@ -1,0 +1,39 @@
+use native.Mathlib.Omega.{arith}
+use native.Mathlib.Nat.{mul-le-mul}
+use Prim.Native.Nat.{◌/◌, ◌≤◌}
+use mathlib.Core.Path.{sym, ◌∙◌}
+use borrow.Author.Tests.{not-true, not-false}
+use Rattle.paper.specs.Geometry.{lengthsOf}
+use Rattle.paper.proofs.Geometry.{geo-facts}
+use borrow.Author.Rules.{rules}
+use Rattle.paper.proofs.lengths_for.Goals as goal
+
+pub returns-then-not-geometry_ok : goal.returns-then-not-geometry_ok
+unfolding lengthsOf
+returns-then-not-geometry_ok c = simp (sym c.geometry_ok.ensures ∙ not-true _ c.if-not-geometry_ok.true-raw)
+
+pub bases_len-requires : goal.bases_len-requires
+bases_len-requires c =
+    let g = geo-facts _ _ _ _ (sym c.geometry_ok.ensures ∙ not-false _ c.if-not-geometry_ok.false-raw) in
+    (g.d-high, g.n-high)
+
+pub face_words-requires : goal.face_words-requires
+face_words-requires c =
+    let g = geo-facts _ _ _ _ (sym c.geometry_ok.ensures ∙ not-false _ c.if-not-geometry_ok.false-raw) in
+    (g.d-high, g.n-high, g.cap-high)
+
+pub vector_bytes-requires : goal.vector_bytes-requires
+vector_bytes-requires c =
+    let g = geo-facts _ _ _ _ (sym c.geometry_ok.ensures ∙ not-false _ c.if-not-geometry_ok.false-raw) in
+    (g.d-high, g.cap-high)
+
+pub overflow_mul-result : goal.overflow_mul-result
+overflow_mul-result c =
+    let g = geo-facts _ _ _ _ (sym c.geometry_ok.ensures ∙ not-false _ c.if-not-geometry_ok.false-raw) in
+    let w : c.args.cap / 64 ≤ 1024 = omega arith in
+    omega (arith, mul-le-mul g.n-high w)
+
+pub returns : goal.returns
+unfolding lengthsOf
+returns c =
+    simp (sym c.geometry_ok.ensures ∙ not-false _ c.if-not-geometry_ok.false-raw, c.bases_len.ensures, c.face_words.ensures, c.vector_bytes.ensures)

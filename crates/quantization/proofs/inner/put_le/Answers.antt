@@ -1,0 +1,24 @@
+-- storing the bytes that are left gives what storing all of them gave
+use mathlib.Core.Path.{refl, sym, ◌∙◌}
+use Prim.Native.Nat.{◌+◌, ◌-◌, ◌%◌, ◌≤◌}
+use borrow.Author.Rules.{rules}
+use native.Mathlib.Omega.{arith}
+use mathlib.Core.Path.{◌≡◌}
+use lib.ListN.{length, length-set}
+use lib.Seq.{sets}
+use Rattle.quantization.specs.Bytes.{le_bytes}
+use Rattle.quantization.proofs.Bytes.{put-start, put_step, put-end}
+use Rattle.quantization.proofs.inner.put_le.Goals as goal
+
+pub loop-j-init : goal.loop-j-init
+loop-j-init c = (omega arith, refl, put-start c.args.out.now c.args.at c.args.size c.args.n)
+
+pub loop-j-preserved : goal.loop-j-preserved
+loop-j-preserved c = (
+  omega arith,
+  length-set c.loop-j.out (c.args.at + c.loop-j.j) (c.loop-j.rest % 256) ∙ c.loop-j.invariant.1,
+  put_step c.loop-j.out c.args.at c.args.size c.loop-j.j c.loop-j.rest (omega arith) ∙ c.loop-j.invariant.2,
+)
+
+pub returns : goal.returns
+returns c = sym (put-end c.loop-j.out c.args.at c.args.size c.loop-j.j c.loop-j.rest (omega arith)) ∙ c.loop-j.invariant.2

@@ -1,0 +1,16 @@
+use borrow.Author.Tests.{eq-eqb, ne_eqb}
+use Rattle.records.specs.Requests.{additionOf}
+use borrow.Author.Rules.{rules}
+use Rattle.records.proofs.addition_of.Goals as goal
+
+pub returns-then-g-eq0 : goal.returns-then-g-eq0
+unfolding additionOf
+returns-then-g-eq0 c = simp (eq-eqb _ _ c.if-g-eq0.true)
+
+pub returns-then-s-d : goal.returns-then-s-d
+unfolding additionOf
+returns-then-s-d c = simp (ne_eqb _ _ c.if-g-eq0.false, ne_eqb _ _ c.if-s-d.true)
+
+pub returns : goal.returns
+unfolding additionOf
+returns c = simp (ne_eqb _ _ c.if-g-eq0.false, eq-eqb _ _ c.if-s-d.false, ← c.u32_at.ensures)

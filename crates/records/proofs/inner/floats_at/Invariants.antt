@@ -1,0 +1,16 @@
+use native.Mathlib.Nat.{sub-zero}
+use mathlib.Core.Path.{◌≡◌, refl, sym, ◌∙◌}
+use mathlib.Core.List.{◌++◌}
+use Prim.Native.Nat.{◌+◌, ◌*◌, ◌-◌, ◌≤◌}
+use native.Mathlib.Omega.{arith}
+use lib.ListN.{length, take, length-set}
+use Rattle.records.specs.Fields.{floatsAt}
+use Rattle.records.proofs.Floats.{floats-turn, floats-end}
+use borrow.Author.Rules.{rules}
+use Rattle.records.proofs.inner.floats_at.Given as goal
+
+abbrev pub invariant-loop-i : goal.invariant-loop-i
+invariant-loop-i l = (length l.out ≡ length l.initial.out) × (l.i ≤ length l.initial.out) × (l.at ≡ l.from + 4 * l.i) × (take l.i l.out ++ floatsAt (length l.initial.out - l.i) l.s l.at ≡ floatsAt (length l.initial.out) l.s l.from)
+
+abbrev pub decreases-loop-i : goal.decreases-loop-i
+decreases-loop-i l = length l.initial.out - l.i

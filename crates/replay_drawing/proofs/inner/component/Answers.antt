@@ -1,0 +1,6 @@
+-- `component` is safe and ends, and meets its contract. Assumes nothing.
+use Rattle.std.proofs.Common.{rules}
+use Rattle.replay_drawing.proofs.inner.component.Goals as goal
+
+pub returns : goal.returns
+returns c = rw (c.nearest_u32_to_f32.ensures, c.nearest_u32_to_f32-2.ensures)

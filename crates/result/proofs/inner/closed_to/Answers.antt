@@ -1,0 +1,12 @@
+use Rattle.result.proofs.Answers.{full-room, full-none, full-last}
+use borrow.Author.Rules.{rules}
+use Rattle.result.proofs.inner.closed_to.Goals as goal
+
+pub returns-then-len-k : goal.returns-then-len-k
+returns-then-len-k c = let a = c.args in full-room a.k a.sims.now a.similarity a.len c.if-len-k.true
+
+pub returns-then-len-eq0 : goal.returns-then-len-eq0
+returns-then-len-eq0 c = let a = c.args in full-none a.k a.sims.now a.similarity a.len c.if-len-eq0.true
+
+pub returns : goal.returns
+returns c = let a = c.args in full-last a.k a.sims.now a.similarity a.len c.if-len-k.false c.if-len-eq0.false

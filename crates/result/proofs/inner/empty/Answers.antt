@@ -1,0 +1,8 @@
+use mathlib.Core.Path.{refl}
+use lib.Ieee.{of_bits}
+use Rattle.result.specs.Sets.{emptySet}
+use Rattle.result.proofs.inner.empty.Goals as goal
+
+pub returns : goal.returns
+unfolding of_bits emptySet
+returns c = refl

@@ -1,0 +1,38 @@
+-- `result::inner::insert` meets its contract. Assumes nothing.
+use borrow.Author.Rules.{rules}
+use mathlib.Core.Path.{◌∙◌, sym}
+use native.Mathlib.Omega.{arith}
+use Rattle.result.specs.Ranked.{entry}
+use Rattle.result.specs.Puts.{setOf}
+use Rattle.result.specs.Sets.{entriesOf}
+use Rattle.result.proofs.Answers.{fed-stays, fed-held, fed-put, found-held, found_within, found_at}
+use Rattle.result.proofs.inner.insert.Goals as goal
+
+pub returns-then-closed_to : goal.returns-then-closed_to
+returns-then-closed_to c =
+    let a = c.args in
+    let s = setOf a.ids.now a.sims.now a.len a.k 0 in
+    let e = entry a.id a.similarity in
+    let p = c.requires in
+    fed-stays s e (omega (arith, p.0, p.1)) (omega (arith, p.0, p.1)) p.0.0 (sym c.closed_to.ensures ∙ c.if-closed_to.true)
+
+pub put-requires : goal.put-requires
+put-requires c = ((c.requires.len_le_k.0, c.requires.len_le_k.1, found_within c.place_of.ensures c.at-1.given.0.0 c.at-1.given.1), c.requires.ids_len)
+
+pub returns-in-Held : goal.returns-in-Held
+unfolding entriesOf
+returns-in-Held c =
+    let a = c.args in
+    let s = setOf a.ids.now a.sims.now a.len a.k 0 in
+    let e = entry a.id a.similarity in
+    let p = c.requires in
+    fed-held s e (omega (arith, p.0, p.1)) (omega (arith, p.0, p.1)) p.0.0 (sym c.closed_to.ensures ∙ c.if-closed_to.false) (found-held c.place_of.ensures c.enum_told-1.given.1)
+
+pub returns-in-At : goal.returns-in-At
+unfolding entriesOf
+returns-in-At c =
+    let a = c.args in
+    let s = setOf a.ids.now a.sims.now a.len a.k 0 in
+    let e = entry a.id a.similarity in
+    let p = c.requires in
+    fed-put s e (omega (arith, p.0, p.1)) (omega (arith, p.0, p.1)) p.0.0 c.at-1.given.0.0 _ (sym c.closed_to.ensures ∙ c.if-closed_to.false) (found_at c.place_of.ensures c.at-1.given.0.0 c.at-1.given.1) c.put.ensures

@@ -1,0 +1,14 @@
+use borrow.Author.Rules.{rules}
+use mathlib.Core.Path.{◌≡◌, refl, sym, ap, ◌∙◌}
+use Prim.Native.Nat.{ℕ, ◌≤◌, ◌-◌}
+use native.Mathlib.Omega.{arith}
+use Rattle.result.specs.Ranked.{entry, larger, placed}
+use Rattle.result.specs.Places.{entries}
+use Rattle.result.proofs.Walk.{walked, walks-held, walks-found, walks-on, walks-last}
+use Rattle.result.proofs.inner.place_of.Given as goal
+
+abbrev pub invariant-loop-insert : goal.invariant-loop-insert
+invariant-loop-insert l = (l.insert ≤ l.len) × (walked larger (entry l.id l.similarity) l.insert (entries l.len l.ids l.sims) ≡ placed larger (entry l.id l.similarity) (entries l.len l.ids l.sims))
+
+abbrev pub decreases-loop-insert : goal.decreases-loop-insert
+decreases-loop-insert l = l.len - l.insert

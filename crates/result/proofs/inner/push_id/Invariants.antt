@@ -1,0 +1,15 @@
+use borrow.Author.Rules.{rules}
+use mathlib.Core.Path.{◌≡◌, sym, ◌∙◌}
+use Prim.Native.Nat.{◌≤◌, ◌-◌}
+use native.Mathlib.Omega.{arith}
+use mathlib.Core.List.{◌++◌}
+use lib.ListN.{length, take, drop, length-set}
+use Rattle.result.specs.Lists.{insertAt}
+use Rattle.result.proofs.Push.{pushed, push-starts, push-turns, push-ends}
+use Rattle.result.proofs.inner.push_id.Given as goal
+
+abbrev pub invariant-loop-j : goal.invariant-loop-j
+invariant-loop-j l = (l.j ≤ l.to) × ((length l.ids ≡ 256) × (take l.j l.ids ++ pushed (l.to - l.j) l.carry (drop l.j l.ids) ≡ take l.to (insertAt l.at l.x l.initial.ids) ++ drop l.to l.initial.ids))
+
+abbrev pub decreases-loop-j : goal.decreases-loop-j
+decreases-loop-j l = l.to - l.j

@@ -1,0 +1,39 @@
+-- `result::inner::put` meets its contract. Assumes nothing.
+use borrow.Author.Rules.{rules}
+use mathlib.Core.Path.{refl, ◌∙◌}
+use native.Mathlib.Omega.{arith}
+use Prim.Native.Nat.{◌+◌}
+use Rattle.result.specs.Ranked.{entry}
+use Rattle.result.specs.Puts.{setOf}
+use Rattle.result.specs.Sets.{entriesOf}
+use Rattle.result.proofs.Puts.{shifts, put-room, put_full, put-none}
+use Rattle.result.proofs.inner.put.Goals as goal
+
+pub returns-then-len-k : goal.returns-then-len-k
+unfolding entriesOf
+returns-then-len-k c =
+    let a = c.args in
+    let s = setOf a.ids.now a.sims.now a.len a.k 1 in
+    let e = entry a.id a.similarity in
+    let p = c.requires in
+    shifts s a.at (a.len + 1) (a.len + 1) e _ _ c.push_id.ensures c.push_sim.ensures refl
+    ∙ put-room s (omega (arith, p.0, p.1)) (omega (arith, p.0, p.1)) a.at e p.0.2 c.if-len-k.true
+
+pub returns-then-at-k : goal.returns-then-at-k
+unfolding entriesOf
+returns-then-at-k c =
+    let a = c.args in
+    let s = setOf a.ids.now a.sims.now a.len a.k 1 in
+    let e = entry a.id a.similarity in
+    let p = c.requires in
+    shifts s a.at a.k a.k e _ _ c.push_id-then-at-k.ensures c.push_sim-then-at-k.ensures refl
+    ∙ put_full s (omega (arith, p.0, p.1)) (omega (arith, p.0, p.1)) a.at e p.0.2 (omega (arith, p.0, c.if-len-k.false))
+
+pub returns : goal.returns
+unfolding entriesOf
+returns c =
+    let a = c.args in
+    let s = setOf a.ids.now a.sims.now a.len a.k 1 in
+    let e = entry a.id a.similarity in
+    let p = c.requires in
+    put-none s (omega (arith, p.0, p.1)) (omega (arith, p.0, p.1)) a.at e p.0.2 (omega (arith, p.0, c.if-len-k.false)) (omega (arith, p.0, c.if-len-k.false, c.if-at-k.false))

@@ -1,0 +1,14 @@
+use mathlib.Core.Path.{◌≡◌}
+use Prim.Native.Nat.{◌-◌, ◌+◌, ◌*◌, ◌≤◌}
+use native.Mathlib.Omega.{arith}
+use lib.ListN.{take, drop, get_or}
+use lib.Seq.{length-take-le}
+use Rattle.result.specs.Recalls.{pairsOf}
+use Rattle.result.proofs.Counts.{pairs-more, pairs_end, count-le}
+use Rattle.result.proofs.pairs_in.Given as goal
+
+abbrev pub invariant-loop-i : goal.invariant-loop-i
+invariant-loop-i l = (l.i ≤ l.n) × ((l.found ≤ 256 * l.i) × (l.found + pairsOf (drop l.i (take l.n l.a)) (take l.m l.b) ≡ pairsOf (take l.n l.a) (take l.m l.b)))
+
+abbrev pub decreases-loop-i : goal.decreases-loop-i
+decreases-loop-i l = l.n - l.i

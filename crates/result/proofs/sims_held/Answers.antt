@@ -1,0 +1,35 @@
+use lib.Seq.{get_or-take, length-take-le}
+use Prim.Native.Nat.{◌<◌}
+use borrow.Author.Rules.{rules}
+use mathlib.Core.Path.{◌≡◌, refl, sym, ◌∙◌}
+use Prim.Native.Nat.{◌≤◌, ◌-◌}
+use native.Mathlib.Omega.{arith}
+use lib.ListN.{length, take, drop}
+use lib.Ieee.{nan}
+use Rattle.result.specs.Lists.{all_of, is_held}
+use Rattle.result.proofs.Tests.{all_more, all-fails, all_done, nan-not-held, other-held}
+use Rattle.result.proofs.sims_held.Goals as goal
+
+pub loop-i-init : goal.loop-i-init
+loop-i-init c = (search rules, refl)
+
+pub offset_bounds-sims-i : goal.offset_bounds-sims-i
+offset_bounds-sims-i c = omega arith
+
+pub bounds-sims-i : goal.bounds-sims-i
+bounds-sims-i c = omega arith
+
+pub returns-then-x : goal.returns-then-x
+returns-then-x c = let l = c.loop-i in let a = c.args in let e = length-take-le a.n a.sims.now (omega arith) in let h : l.i < length (take a.n a.sims.now) = omega arith in sym (l.invariant.1 ∙ all-fails is_held nan (take a.n a.sims.now) l.i h (rw (get_or-take a.n a.sims.now l.i nan c.loop-i-test.true) (nan-not-held _ c.if-x.true)))
+
+pub overflow_add-i : goal.overflow_add-i
+overflow_add-i c = omega arith
+
+pub loop-i-smaller : goal.loop-i-smaller
+loop-i-smaller c = omega arith
+
+pub loop-i-preserved : goal.loop-i-preserved
+loop-i-preserved c = let l = c.loop-i in let a = c.args in let e = length-take-le a.n a.sims.now (omega arith) in let h : l.i < length (take a.n a.sims.now) = omega arith in (search rules, l.invariant.1 ∙ all_more is_held nan (take a.n a.sims.now) l.i h (rw (get_or-take a.n a.sims.now l.i nan c.loop-i-test.true) (other-held _ c.if-x.false)))
+
+pub returns : goal.returns
+returns c = let l = c.loop-i in let a = c.args in let e = length-take-le a.n a.sims.now (omega arith) in sym (l.invariant.1 ∙ all_done is_held nan (take a.n a.sims.now) l.i (omega arith))

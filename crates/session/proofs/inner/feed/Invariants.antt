@@ -1,0 +1,16 @@
+use mathlib.Core.Path.{◌≡◌, refl, sym, ap, ◌∙◌}
+use native.Mathlib.Omega.{arith}
+use borrow.Author.Rules.{rules}
+use Prim.Native.Nat.{◌-◌}
+use lib.ListN.{length}
+use Rattle.steps.specs.Memory.{Memory, memoryOf}
+use Rattle.steps.specs.Steps.{state_of}
+use Rattle.session.specs.Runs.{frame_of}
+use Rattle.session.proofs.Feeds.{Going, going_start, rest-is, record_is, going-room, going-turn, ends-part, ends-full, ends-bad}
+use Rattle.session.proofs.inner.feed.Given as goal
+
+abbrev pub invariant-loop-out : goal.invariant-loop-out
+invariant-loop-out l = Going l.input (state_of l.initial.g (memoryOf l.initial.bases l.initial.faces l.initial.marks l.initial.vectors)) l.initial.out l.i l.p (state_of l.g (memoryOf l.bases l.faces l.marks l.vectors)) l.out × Memory (length l.bases) (length l.faces) (length l.marks) (length l.vectors) × (length l.out ≡ length l.initial.out)
+
+abbrev pub decreases-loop-out : goal.decreases-loop-out
+decreases-loop-out l = length l.input - l.i

@@ -1,0 +1,13 @@
+use mathlib.Core.Path.{◌≡◌}
+use native.Mathlib.Omega.{arith}
+use borrow.Author.Rules.{rules}
+use Prim.Native.Nat.{◌+◌, ◌-◌, ◌≤◌}
+use lib.ListN.{length, take, drop, length-set}
+use Rattle.session.proofs.Keeps.{kept_more, kept-rest}
+use Rattle.session.proofs.inner.keep.Given as goal
+
+abbrev pub invariant-loop-i : goal.invariant-loop-i
+invariant-loop-i l = (l.i ≤ l.n) × (length l.buf ≡ length l.initial.buf) × (take l.i l.buf ≡ take l.i (drop l.from l.initial.buf)) × (drop l.i l.buf ≡ drop l.i l.initial.buf) × (l.from + l.n ≤ length l.initial.buf) × (l.n ≡ l.end - l.from)
+
+abbrev pub decreases-loop-i : goal.decreases-loop-i
+decreases-loop-i l = l.n - l.i

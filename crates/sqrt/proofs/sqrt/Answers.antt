@@ -1,0 +1,11 @@
+use mathlib.Core.Path.{ap, ◌∙◌}
+use borrow.Author.Rules.{rules}
+use lib.Ieee.{binary32, of_bits}
+use Rattle.sqrt.specs.RootOf.{root, rootOf}
+use native.Mathlib.Omega.{arith}
+use Rattle.sqrt.proofs.Function.{sqrt-is}
+use Rattle.sqrt.proofs.sqrt.Goals as goal
+
+pub returns : goal.returns
+unfolding root
+returns c = c.of_bits.ensures ∙ ap (of_bits binary32) (sqrt-is _ _ (omega arith) c.sqrt_bits.ensures ∙ ap rootOf c.bits_of.ensures)

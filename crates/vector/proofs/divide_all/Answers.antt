@@ -1,0 +1,26 @@
+-- `vector::divide_all` meets its contract. Assumes nothing.
+use borrow.Author.Rules.{rules}
+use Prim.Native.Nat.{◌-◌, ◌≤◌}
+use mathlib.Core.Path.{◌≡◌, refl, sym, ◌∙◌}
+use native.Mathlib.Omega.{arith}
+use mathlib.Core.List.{◌++◌, map}
+use lib.ListN.{length, take, drop, length-set}
+use lib.Ieee.{Float, binary32, div}
+use Rattle.vector.proofs.Vectors.{map-step, map-end}
+use Rattle.vector.proofs.divide_all.Goals as goal
+
+abbrev by : Float → Float → Float
+by n x = div binary32 x n
+
+pub loop-i-init : goal.loop-i-init
+loop-i-init c = (refl, search rules, refl)
+
+pub loop-i-preserved : goal.loop-i-preserved
+loop-i-preserved c = (
+  simp length-set c.loop-i.invariant.0,
+  simp length-set (omega arith),
+  map-step (by c.args.norm) c.loop-i.vec c.loop-i.i c.loop-i-test.true ∙ c.loop-i.invariant.2,
+)
+
+pub returns : goal.returns
+returns c = sym (map-end (by c.args.norm) _ c.loop-i.i c.loop-i-test.false) ∙ c.loop-i.invariant.2

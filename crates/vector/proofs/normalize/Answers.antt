@@ -1,0 +1,63 @@
+-- `vector::normalize` meets its contract. Assumes nothing.
+-- what each way through the code has found, and what is promised then
+use mathlib.Core.Path.{◌≡◌, sym, ◌∙◌, ap}
+use mathlib.Core.Bool.{true, false}
+use mathlib.Core.List.{List}
+use borrow.Author.Tests.{not-true, not-false}
+use lib.Ieee.{Float, eq}
+use Rattle.sqrt.specs.RootOf.{root}
+use Rattle.vector.specs.Fold.{dotOf, zero32}
+use Rattle.vector.specs.Finite.{is_finite, allFinite}
+use Rattle.vector.specs.Norm.{Normal, normal, normOf, normNumber, normalized, divided_by, allFiniteBy}
+use borrow.Author.Rules.{rules}
+use Rattle.vector.proofs.normalize.Goals as goal
+
+norm-is : (xs : List Float) (d n : Float) → d ≡ dotOf xs xs → n ≡ root d → n ≡ normOf xs
+unfolding normOf
+norm-is xs d n p q = q ∙ ap root p
+
+module _ (xs : List Float) where
+  abbrev outcome : Normal
+  outcome = normal (normNumber xs) (normalized xs)
+
+  not_finite : allFinite xs ≡ false → normal 5 xs ≡ outcome
+  unfolding normNumber normalized
+  not_finite h = simp h
+
+  module _ (h : allFinite xs ≡ true) (n : Float) (N : n ≡ normOf xs) where
+    norm-not-finite : is_finite n ≡ false → normal 6 xs ≡ outcome
+    unfolding normNumber normalized
+    norm-not-finite g = simp (h, ← N, g)
+
+    module _ (g : is_finite n ≡ true) where
+      norm-zero : eq n zero32 ≡ true → normal 6 xs ≡ outcome
+      unfolding normNumber normalized
+      norm-zero z = simp (h, ← N, g, z)
+
+      module _ (z : eq n zero32 ≡ false) where
+        quotient-not-finite : allFiniteBy n xs ≡ false → normal 6 xs ≡ outcome
+        unfolding normNumber normalized
+        quotient-not-finite q = simp (h, ← N, g, z, q)
+
+        accepted : (ys : List Float) → allFiniteBy n xs ≡ true → ys ≡ divided_by n xs → normal 0 ys ≡ outcome
+        unfolding normNumber normalized
+        accepted ys q e = simp (h, ← N, g, z, q, e)
+
+pub returns-then-not-all_finite : goal.returns-then-not-all_finite
+returns-then-not-all_finite c = not_finite c.args.vec.now (sym c.all_finite.ensures ∙ not-true _ c.if-not-all_finite.true-raw)
+
+pub returns-then-not-is_finite : goal.returns-then-not-is_finite
+returns-then-not-is_finite c =
+    norm-not-finite c.args.vec.now (sym c.all_finite.ensures ∙ not-false _ c.if-not-all_finite.false-raw) _ (norm-is c.args.vec.now _ _ c.dot_of.ensures c.sqrt-norm.ensures) (sym c.is_finite.ensures ∙ not-true _ c.if-not-is_finite.true-raw)
+
+pub returns-then-norm : goal.returns-then-norm
+returns-then-norm c =
+    norm-zero c.args.vec.now (sym c.all_finite.ensures ∙ not-false _ c.if-not-all_finite.false-raw) _ (norm-is c.args.vec.now _ _ c.dot_of.ensures c.sqrt-norm.ensures) (sym c.is_finite.ensures ∙ not-false _ c.if-not-is_finite.false-raw) c.if-norm.true
+
+pub returns-then-not-quotients_finite : goal.returns-then-not-quotients_finite
+returns-then-not-quotients_finite c =
+    quotient-not-finite c.args.vec.now (sym c.all_finite.ensures ∙ not-false _ c.if-not-all_finite.false-raw) _ (norm-is c.args.vec.now _ _ c.dot_of.ensures c.sqrt-norm.ensures) (sym c.is_finite.ensures ∙ not-false _ c.if-not-is_finite.false-raw) c.if-norm.false (sym c.quotients_finite.ensures ∙ not-true _ c.if-not-quotients_finite.true-raw)
+
+pub returns : goal.returns
+returns c =
+    accepted c.args.vec.now (sym c.all_finite.ensures ∙ not-false _ c.if-not-all_finite.false-raw) _ (norm-is c.args.vec.now _ _ c.dot_of.ensures c.sqrt-norm.ensures) (sym c.is_finite.ensures ∙ not-false _ c.if-not-is_finite.false-raw) c.if-norm.false _ (sym c.quotients_finite.ensures ∙ not-false _ c.if-not-quotients_finite.false-raw) c.divide_all.ensures

@@ -1,0 +1,10 @@
+-- `vector_store::show` meets its contract. Assumes nothing.
+use Rattle.vector_store.proofs.Cases.{show-refused, show-good}
+use borrow.Author.Rules.{rules}
+use Rattle.vector_store.proofs.show.Goals as goal
+
+pub returns-then-num-ne0 : goal.returns-then-num-ne0
+returns-then-num-ne0 c = show-refused c.args.dropped c.args.fed c.refuse.result c.if-num-ne0.true c.refuse.ensures
+
+pub returns : goal.returns
+returns c = show-good c.args.dropped c.args.fed c.if-num-ne0.false

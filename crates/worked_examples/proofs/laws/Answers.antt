@@ -1,0 +1,75 @@
+-- `worked_examples::laws`: P1 to P12 hold, the checker computes each from the definitions. Assumes nothing.
+-- `rootOf` computes, and what it gives is the root
+use mathlib.Core.Path.{◌≡◌, refl, subst}
+use Prim.Native.Nat.{ℕ, ◌<◌}
+use native.Mathlib.Omega.{arith}
+use lib.Count.{ones}
+use lib.Ieee.{of_bits, lt, eq, neg, is_nan, nan_bits}
+use Rattle.paper.specs.Geometry.{capOk}
+use Rattle.sqrt.specs.Root.{Sqrt}
+use Rattle.sqrt.specs.RootOf.{rootOf}
+use Rattle.sqrt.proofs.Function.{root-of}
+use Rattle.quantization.specs.Bf16.{lowered}
+use Rattle.vector.specs.Finite.{every}
+use Rattle.faces.specs.Best.{beats, firstFrom, bestOf}
+use Rattle.faces.specs.Slots.{faceOf, facesOf, pickedOf, after_of, picks_of}
+use Rattle.faces.specs.Answer.{faceNumber, spillOf}
+use Rattle.bitmaps.specs.Words.{by_word, size}
+use Rattle.bitmaps.specs.Walk.{ids_in}
+use Rattle.counting_bitmap.specs.Layers.{merged, mergedAll}
+use Rattle.counting_bitmap.specs.TopLayer.{top_of}
+use Rattle.counting_bitmap.specs.Answers.{layersOk, mergeFault, layersFault}
+use Rattle.result.specs.Ranked.{fed}
+use Rattle.result.proofs.Leaves.{leaves}
+use Rattle.worked_examples.specs.Examples.{examples, All}
+use Rattle.worked_examples.proofs.laws.Goals as goal
+
+rooted : (b q : ℕ) → b < 0x1_0000_0000 → rootOf b ≡ q → Sqrt b q
+rooted b q h e = subst (Sqrt b) e (root-of b h)
+
+hold : All examples
+unfolding rootOf lowered nan_bits faceNumber faceOf spillOf facesOf pickedOf after_of picks_of bestOf firstFrom every beats lt eq neg of_bits is_nan mergedAll merged by_word ids_in mergeFault layersFault layersOk capOk top_of size ones fed
+hold = (
+  rooted _ _ (omega arith) refl,
+  (
+    rooted _ _ (omega arith) refl,
+    (
+      rooted _ _ (omega arith) refl,
+      (
+        refl,
+        (
+          refl,
+          (
+            refl,
+            (
+              record { refusal = refl; face = refl; case = refl },
+              (
+                record { refusal = refl; face = refl; case = refl },
+                (
+                  refl,
+                  (
+                    (
+                      (refl, (refl, (refl, tt))),
+                      (refl, (refl, (refl, tt))),
+                      (record { answer = refl; refusal = refl; value = refl }, (record { answer = refl; refusal = refl; value = refl }, (record { answer = refl; refusal = refl; value = refl }, tt))),
+                    ),
+                    (
+                      leaves 2 _ _ (omega arith) (omega arith) refl refl,
+                      (
+                        leaves 3 _ _ (omega arith) (omega arith) refl refl,
+                        tt,
+                      ),
+                    ),
+                  ),
+                ),
+              ),
+            ),
+          ),
+        ),
+      ),
+    ),
+  ),
+)
+
+pub returns : goal.returns
+returns c = record { examples-hold = hold }

@@ -37,11 +37,9 @@ def search(*words, data=b'', **more):
 
 def program():
     """The words that run the program itself."""
-    words = [os.path.join(ROOT, 'target', 'bin', 'search')]
+    words = [os.path.join(ROOT, 'crates', 'search', 'out', 'search')]
     if platform.machine() != 'x86_64':
-        guide = subprocess.run(['rt', 'doc'], capture_output=True, text=True, check=True).stdout.strip()
-        kit = os.path.join(os.path.dirname(os.path.dirname(guide)), 'on', platform.machine(), 'toolchain')
-        words = [kit + '/bin/qemu-x86_64', kit + '/lib/ld-linux-x86-64.so.2', '--library-path', kit + '/lib'] + words
+        words.insert(0, 'qemu-x86_64')
     return words
 
 
@@ -469,7 +467,7 @@ class Building(Sentences):
         room = tempfile.TemporaryDirectory()
         self.addCleanup(room.cleanup)
         self.room = room.name
-        for folder in ('project/crates/search', 'project/tools', 'bin', 'kit/docs'):
+        for folder in ('project/crates/search', 'project/tools', 'bin'):
             os.makedirs(os.path.join(self.room, folder))
         shutil.copy2(SCRIPT, self.path('project', 'search'))
         shutil.copy2(os.path.join(ROOT, 'tools', 'records'), self.path('project', 'tools', 'records'))
@@ -489,16 +487,12 @@ class Building(Sentences):
 
     def toolchain(self, last=''):
         self.script('rt', f'''
-            [ "$1" != doc ] || {{ echo {self.room}/kit/docs/START; exit; }}
-            [ "$*" = "check search" ] || exit 9
+            [ "$*" = "run search" ] || exit 9
             cat                                     # nothing of the script's own input may come here
-            for name in a b c; do echo "fn $name::f: proved"; echo "rt: $name proved (1 s)"; done
-            echo "rt: d proved (unchanged since it was last proved)"
-            for name in e f search; do echo "rt: $name proved (12 s)"; done
+            for name in a b c d e f search; do echo "fn $name::f: proved"; echo "logic=proved functions=1 sum=0"; done
             {last}
-            mkdir -p target/bin && printf '#!/bin/sh\\nexec cat\\n' > target/bin/search && chmod +x target/bin/search
-            echo "rt: search ran, and wrote what its file 'stdout' has (0 s)"
-            echo "rt: ok, 7 crates proved"''')
+            mkdir -p crates/search/out && printf '#!/bin/sh\\nexec cat\\n' > crates/search/out/search && chmod +x crates/search/out/search
+            echo "rt: running out/search; to give it other input, run that file yourself"''')
 
     def search(self, *words, data=b'', path=None, **env):
         env = dict(os.environ, PATH=path or self.path('bin') + ':' + os.environ['PATH'], TMPDIR=self.path(), **env)
@@ -519,7 +513,7 @@ class Building(Sentences):
         self.assertEqual((tools.returncode, tools.stdout, tools.stderr), (0, b'records', b''))
         with open(self.path('project', 'crates', 'search', 'new'), 'w'):
             pass
-        os.utime(self.path('project', 'target', 'bin', 'search'), (1, 1))
+        os.utime(self.path('project', 'crates', 'search', 'out', 'search'), (1, 1))
         self.told(self.search('--records', path=self.tools('python3')), 1, 'there is no rt on the path')
 
     def test_the_progress_on_a_terminal_is_one_line(self):
@@ -540,21 +534,20 @@ class Building(Sentences):
         self.assertEqual(lines[2:], [''])
 
     def test_a_build_that_fails(self):
-        self.toolchain(last='echo "rt: search NOT PROVED (exit 1, 3 s)"; exit 1')
+        self.toolchain(last='echo "fn search::main: not proved"; exit 1')
         before = set(os.listdir(self.room))
         ran = self.search('--records', data=b'records')
         self.assertEqual(set(os.listdir(self.room)), before)       # no log is left behind
         said = ran.stderr.decode()
         self.assertEqual((ran.returncode, ran.stdout), (1, b''))
-        self.assertIn('rt: search NOT PROVED', said)
-        self.assertTrue(said.endswith('search: the program could not be built; rt check search shows all of it.\n'), said)
+        self.assertIn('fn search::main: not proved', said)
+        self.assertTrue(said.endswith('search: the program could not be built; rt run search shows all of it.\n'), said)
 
     def test_another_processor(self):
         self.toolchain()
         self.search('--records')
-        self.told(self.search('--records', MACHINE='other'), 1, 'has no emulator for it at ' + self.path('kit', 'on', 'other', 'toolchain'))
-        os.makedirs(self.path('kit', 'on', 'other', 'toolchain', 'bin'))
-        os.rename(self.script('emulator', 'echo emulated; shift 3; exec "$@"'), self.path('kit', 'on', 'other', 'toolchain', 'bin', 'qemu-x86_64'))
+        self.told(self.search('--records', MACHINE='other', path=self.tools('python3')), 1, 'there is no qemu-x86_64 on the path')
+        self.script('qemu-x86_64', 'echo emulated; exec "$@"')
         ran = self.search('--records', data=b'records', MACHINE='other')
         self.assertEqual((ran.returncode, ran.stdout, ran.stderr), (0, b'emulated\nrecords', b''))
 
@@ -562,7 +555,7 @@ class Building(Sentences):
         self.toolchain()
         self.search('--records')
         for text, part in [('exit 3', 'the program ended with status 3'), ('kill -9 $$', 'the program was ended by signal 9')]:
-            with open(self.path('project', 'target', 'bin', 'search'), 'w') as f:
+            with open(self.path('project', 'crates', 'search', 'out', 'search'), 'w') as f:
                 f.write(f'#!/bin/sh\n{text}\n')
             self.told(self.search('--records', data=b'records'), 1, part)
 

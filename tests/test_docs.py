@@ -1,11 +1,7 @@
 """Holds the pages that users read to the project: links lead somewhere, refusals have the header's and the wrapper's names, every crate is on the map, no word is
-explained twice, and numbers that are quoted are the numbers. Also tests tools/paths, on a small proof."""
-import importlib.machinery
-import importlib.util
+explained twice, and numbers that are quoted are the numbers."""
 import pathlib
 import re
-import subprocess
-import sys
 import unittest
 import xml.etree.ElementTree as ET
 
@@ -69,7 +65,7 @@ class Links(unittest.TestCase):
         self.assertGreater(seen, 30)
 
     def test_files_that_are_named_exist(self):
-        """Paths below a folder of the project, as docs/SCOPE.md or tools/paths, and pages at its root."""
+        """Paths below a folder of the project, as docs/SCOPE.md or tools/tried, and pages at its root."""
         folders = "|".join(sorted(p.name for p in ROOT.iterdir() if p.is_dir() and not p.name.startswith(".") and p.name != "target"))
         seen = 0
         for page in PAGES:
@@ -245,162 +241,9 @@ class Version(unittest.TestCase):
 
 class Words(unittest.TestCase):
     def test_pages_speak_of_the_project_alone(self):
-        for page in [*PAGES, ROOT / "tools" / "paths"]:
+        for page in PAGES:
             with self.subTest(page=page.name):
                 self.assertNotRegex(page.read_text(encoding="utf-8"), r"(?<![\w.])/(?:work|tmp|home|root|opt)/|https?://(?!www\.w3\.org)")
-
-
-# ---- tools/paths
-
-LTS = """\
-      pub record Start : Type 0 where
-        pub args : Args
-        pub pre : Pre· tt (dens args)
-
-        pub record At-loop·own : Type 0 where
-          pub i : ℕ
-          pub inv : Inv·0
-
-      pub record At-loop : Type 0 where
-        pub before : Start
-        pub loop : At-loop·own before
-
-        pub record Then1·own : Type 0 where
-          pub taken : Nat._<_ (Row.get 1 (T0 .locals) (m0 (before· .args))) 7
-
-      pub record Then1 : Type 0 where
-        pub before : At-loop
-        pub if1 : Then1·own before
-
-      Need-returns =
-          (c : Then1) →
-          Post·
-
-        pub record Else1·own : Type 0 where
-          pub left : Nat._≤_ 7 (Row.get 1 (T0 .locals) (m0 (before· .args)))
-
-      pub record Else1 : Type 0 where
-        pub before : At-loop
-        pub if1 : Else1·own before
-
-      Need-add-i = (c : Else1) → Fits
-
-      Need-returns-2 =
-          (c : Else1) →
-          Post·
-"""
-# the same with a test of another number put in before the first: what was if1 is if2, and what returned first returns second
-MORE = LTS.split("        pub record Then1·own")[0] + """\
-        pub record Then1·own : Type 0 where
-          pub taken : Nat._<_ (Row.get 2 (T0 .locals) (m0 (before· .args))) 3
-
-      pub record Then1 : Type 0 where
-        pub before : At-loop
-        pub if1 : Then1·own before
-
-      Need-returns =
-          (c : Then1) →
-          Post·
-
-        pub record Else1·own : Type 0 where
-          pub left : Nat._≤_ 3 (Row.get 2 (T0 .locals) (m0 (before· .args)))
-
-      pub record Else1 : Type 0 where
-        pub before : At-loop
-        pub if1 : Else1·own before
-
-""" + ("        pub record Then1·own" + LTS.split("        pub record Then1·own")[1]).replace("Then1", "Then2").replace("Else1", "Else2") \
-    .replace("if1", "if2").replace("before : At-loop", "before : Else1").replace("T0", "T4").replace("m0", "m9").replace("before· .args", "before· .before .args") \
-    .replace("Need-returns-2", "Need-returns-3").replace("Need-returns =", "Need-returns-2 =")
-PROOF = """\
-use R.Tie as tie
-
-abbrev Inv-loop : tie.InvT-loop
-Inv-loop i₀ i = i ≤ 7
-
-helped : (c : tie.At-loop Inv-loop) → c .loop .i ≤ 7
-helped c = c .loop .inv
-
-returns : tie.Need-returns Inv-loop
-returns c = both (c .if1 .taken) (c .before .before .args .x) (helped (c .before))
-
-add-i : tie.Need-add-i Inv-loop
-add-i c = omega (arith, c .before .loop .inv, c .if1 .left)
-
-returns-2 : tie.Need-returns-2 Inv-loop
-returns-2 c =
-    let a = c .before .before .args in
-    last a (c .if1 .left)
-
-pub f-spec : {M : Type 1} → statement M
-f-spec = tie.close (tie.spec Inv-loop returns add-i returns-2)
-"""
-
-
-class Paths(unittest.TestCase):
-    @classmethod
-    def setUpClass(cls):
-        loader = importlib.machinery.SourceFileLoader("paths", str(ROOT / "tools" / "paths"))
-        kept, sys.dont_write_bytecode = sys.dont_write_bytecode, True
-        cls.tool = importlib.util.module_from_spec(importlib.util.spec_from_loader("paths", loader))
-        loader.exec_module(cls.tool)
-        sys.dont_write_bytecode = kept
-
-    def test_places_and_needs(self):
-        places = self.tool.Places(LTS)
-        self.assertEqual({"Need-returns": "Then1", "Need-add-i": "Else1", "Need-returns-2": "Else1"}, places.needs)
-        self.assertEqual([("Else1", 0), ("At-loop", 1), ("Start", 2)], list(places.way("Else1")))
-
-    def test_folding_names_every_path(self):
-        folded = self.tool.fold(PROOF, self.tool.Places(LTS))
-        self.assertNotIn(".before", folded)
-        for line in ("helped c = @loop .inv", "returns c = both (@if1 .taken) (@args .x) (helped (@At-loop))", "    let a = @args in"):
-            self.assertIn(line + "\n", folded)
-
-    def test_expanding_gives_the_file_back(self):
-        places = self.tool.Places(LTS)
-        self.assertEqual(PROOF, self.tool.expand(self.tool.fold(PROOF, places), places))
-
-    def test_a_farther_field_of_one_name_is_told_apart(self):
-        places = self.tool.Places(MORE.replace("if2", "if1"))
-        text = "x : tie.Need-returns-3\nx c = c .if1 .left c .before .if1 .left\n"
-        folded = self.tool.fold(text, places)
-        self.assertEqual("x : tie.Need-returns-3\nx c = @if1 .left @Else1.if1 .left\n", folded)
-        self.assertEqual(text, self.tool.expand(folded, places))
-
-    def test_a_name_that_is_nowhere_is_told(self):
-        with self.assertRaises(self.tool.Wrong):
-            self.tool.expand("x : tie.Need-returns\nx c = @loop2 .inv\n", self.tool.Places(LTS))
-
-    def test_renumbering_after_a_new_test(self):
-        after, said = self.tool.renumber(PROOF, self.tool.Places(LTS), self.tool.Places(MORE))
-        self.assertIn("returns-2 : tie.Need-returns-2 Inv-loop\nreturns-2 c = both (c .if2 .taken) (c .before .before .before .args .x) (helped (c .before .before))\n", after)
-        self.assertIn("add-i c = omega (arith, c .before .before .loop .inv, c .if2 .left)\n", after)
-        self.assertIn("returns-3 : tie.Need-returns-3 Inv-loop\n", after)
-        self.assertIn("    last a (c .if2 .left)\n", after)
-        self.assertIn("tie.spec Inv-loop returns-2 add-i returns-3)", after)
-        self.assertEqual("new: returns, at Then1", said[0])
-
-    def test_renumbering_without_an_edit_changes_nothing(self):
-        self.assertEqual((PROOF, []), self.tool.renumber(PROOF, self.tool.Places(LTS), self.tool.Places(LTS)))
-
-    def test_what_is_gone_keeps_a_name(self):
-        old, new = self.tool.Places(MORE), self.tool.Places(LTS)
-        longer = self.tool.renumber(PROOF, new, old)[0]
-        after, said = self.tool.renumber(longer, old, new)
-        self.assertEqual(PROOF, after)
-        self.assertEqual("gone: returns", said[0])
-        after, said = self.tool.renumber(longer.replace("last a ", "last a (c .before .if1 .left) "), old, new)
-        self.assertIn("    last a (@Else1.if1 .left) (c .if1 .left)\n", after)
-        self.assertIn("returns-3: c .before .if1 is gone", said)
-
-    def test_wrong_use_is_told(self):
-        for words in ([], ["paper", "--fold", "--expand"], ["paper", "--unfold"]):
-            with self.subTest(words=words):
-                done = subprocess.run([ROOT / "tools" / "paths", *words], cwd=ROOT, capture_output=True, text=True)
-                self.assertEqual((2, 1), (done.returncode, len(done.stderr.splitlines())))
-        done = subprocess.run([ROOT / "tools" / "paths", "no_such_crate"], cwd=ROOT, capture_output=True, text=True)
-        self.assertEqual((1, 1), (done.returncode, len(done.stderr.splitlines())))
 
 
 if __name__ == "__main__":

@@ -1,8 +1,4 @@
-use mathlib.Core.Path.{◌≡◌}
-use Prim.Native.Nat.{◌-◌, ◌+◌, ◌≤◌}
 use native.Mathlib.Omega.{arith}
-use lib.ListN.{take, drop}
-use Rattle.result.specs.Recalls.{count_of}
 use Rattle.result.proofs.Counts.{count_yes, count_no, count-end}
 use Rattle.result.proofs.count_in.Goals as goal
 use Rattle.result.proofs.count_in.Goals.{then-ids-i, else-ids-i}

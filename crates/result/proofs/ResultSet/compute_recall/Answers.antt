@@ -1,4 +1,3 @@
-use borrow.Author.Rules.{rules}
 use mathlib.Core.Path.{sym, ◌∙◌}
 use native.Mathlib.Omega.{arith}
 use Rattle.result.proofs.Answers.{form}
@@ -6,10 +5,10 @@ use Rattle.result.proofs.Recalls.{first-13, second-13, zero-14, shared, first-ar
 use Rattle.result.proofs.ResultSet.compute_recall.Goals as goal
 
 pub returns-then-not-well_formed : goal.returns-then-not-well_formed
-returns-then-not-well_formed c = first-13 c.args.self c.args.baseline c.args.at (sym (c.if-not-well_formed.true) ∙ c.well_formed-2.ensures)
+returns-then-not-well_formed c = first-13 c.args.self c.args.baseline c.args.at (sym c.if-not-well_formed.true ∙ c.well_formed-2.ensures)
 
 pub returns-then-not-well_formed-2 : goal.returns-then-not-well_formed-2
-returns-then-not-well_formed-2 c = second-13 c.args.self c.args.baseline c.args.at (sym c.well_formed-2.ensures ∙ c.if-not-well_formed.false) (sym (c.if-not-well_formed-2.true) ∙ c.well_formed-3.ensures)
+returns-then-not-well_formed-2 c = second-13 c.args.self c.args.baseline c.args.at (sym c.well_formed-2.ensures ∙ c.if-not-well_formed.false) (sym c.if-not-well_formed-2.true ∙ c.well_formed-3.ensures)
 
 pub returns-then-at-eq0 : goal.returns-then-at-eq0
 returns-then-at-eq0 c = zero-14 c.args.self c.args.baseline c.args.at (sym c.well_formed-2.ensures ∙ c.if-not-well_formed.false) (sym c.well_formed-3.ensures ∙ c.if-not-well_formed-2.false) c.if-at-eq0.true

@@ -2,7 +2,6 @@ use mathlib.Core.Path.{sym, ◌∙◌}
 use native.Mathlib.Omega.{arith}
 use Rattle.result.proofs.Answers.{refused-13, refused-10, refused-12, accepted, form, below-max}
 use Rattle.result.proofs.Tests.{is-nan, no_nan}
-use borrow.Author.Rules.{rules}
 use Rattle.result.proofs.ResultSet.feed.Goals as goal
 
 pub returns-then-not-well_formed : goal.returns-then-not-well_formed

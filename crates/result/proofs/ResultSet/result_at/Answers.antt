@@ -1,4 +1,3 @@
-use borrow.Author.Rules.{rules}
 use native.Mathlib.Omega.{arith}
 use Rattle.result.proofs.Listings.{listed-past, listed-beyond, listed_here}
 use Rattle.result.proofs.ResultSet.result_at.Goals as goal

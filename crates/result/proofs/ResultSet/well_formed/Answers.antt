@@ -1,7 +1,6 @@
 use mathlib.Core.Path.{refl, sym, ◌∙◌}
 use Rattle.result.proofs.Answers.{form-k, form-len, form-rest}
 use mathlib.Core.Bool.{true, false}
-use borrow.Author.Rules.{rules}
 use Rattle.result.proofs.ResultSet.well_formed.Goals as goal
 
 pub returns-then-self-gt256 : goal.returns-then-self-gt256

@@ -1,5 +1,4 @@
 -- `result::inner::insert` meets its contract. Assumes nothing.
-use borrow.Author.Rules.{rules}
 use mathlib.Core.Path.{◌∙◌, sym}
 use native.Mathlib.Omega.{arith}
 use Rattle.result.specs.Ranked.{entry}

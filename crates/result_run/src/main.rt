@@ -14,9 +14,10 @@ ghost use Rattle.result.specs.Recalls.{toldBy};
 
 use result::{Fed, Listed, Recall, ResultSet, SearchResult};
 
-// The file descriptors of standard input and standard output.
+// The file descriptor of standard input.
 const STDIN_FILENO: i32 = 0;
 
+// The file descriptor of standard output.
 const STDOUT_FILENO: i32 = 1;
 
 fn digit(b: u8) -> u32

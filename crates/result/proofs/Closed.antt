@@ -3,7 +3,7 @@
 use mathlib.Core.Path.{◌≡◌, refl, sym, ap, ◌∙◌}
 use mathlib.Core.Bool.{Bool, true, false, not}
 use mathlib.Core.List.{List, [], ◌∷◌}
-use Prim.Native.Nat.{ℕ, suc, zero, ◌≤◌}
+use Prim.Native.Nat.{ℕ, suc, ◌≤◌}
 use native.Mathlib.Omega.{arith}
 use borrow.Author.Tests.{not-true, eqb-true, eq-eqb}
 use lib.Dec.{eqb}
@@ -18,7 +18,7 @@ use Rattle.result.specs.Places.{fullAbove}
 use Rattle.result.specs.Sets.{entriesOf, fedSet}
 use Rattle.result.specs.declared.ResultSet.{ResultSet}
 use Rattle.result.proofs.Answers.{form, set-stays}
-use Rattle.result.proofs.Puts.{len_is, sims-are}
+use Rattle.result.proofs.Puts.{sims-are}
 use Rattle.result.proofs.Keeps.{heldE, all-sims, Sound, sound-fed, entries-fed, fed-k, fed-long}
 use Rattle.result.proofs.Order.{order-of, fed-order, larger-one-way}
 use Rattle.result.proofs.Sorted.{larger-through}

@@ -1,4 +1,6 @@
 // The ranked list of a search: at most k entries of an id and a similarity, fed one by one.
+#![tactic(auto)]
+
 ghost use Rattle.std.specs.Prelude.{◌≡◌, ◌≤◌, min, eqb, drop, take, length};
 ghost use Rattle.result.specs.Lists.{all_of, is_zero, isBlank, is_held};
 ghost use Rattle.result.specs.Sets.{made_of, wellFormed, entriesOf, feedOf};

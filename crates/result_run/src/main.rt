@@ -6,12 +6,19 @@
 //   3  a set's k, len, checked, one place with its id and score, then the id and score to feed: prints whether the set is well formed and whether it is empty, then
 //      the refusal, and len and checked after it
 //   4  at, then two times a set's k, len, checked, one place with its id and score: prints the refusal of a recall
+#![tactic(auto)]
+
 ghost use Rattle.std.specs.Prelude.{◌≡◌, ◌<◌};
 ghost use Rattle.result.specs.Sets.{feedOf};
 ghost use Rattle.result.specs.Recalls.{toldBy};
 
-use libc::{STDIN_FILENO, STDOUT_FILENO};
 use result::{Fed, Listed, Recall, ResultSet, SearchResult};
+
+// The file descriptor of standard input.
+const STDIN_FILENO: i32 = 0;
+
+// The file descriptor of standard output.
+const STDOUT_FILENO: i32 = 1;
 
 fn digit(b: u8) -> u32
     ensures { result < 16 }

@@ -1,14 +1,13 @@
 -- The root keeps the order: a smaller pattern has no larger root, and what is above the root of a pattern is above the roots of all smaller ones.
 -- Assumes nothing.
-use Prim.Native.Nat.{ℕ, zero, suc, ◌+◌, ◌*◌, ◌%◌, ◌^◌, ◌≤◌, ◌<◌}
+use Prim.Native.Nat.{ℕ, ◌*◌, ◌%◌, ◌^◌, ◌≤◌, ◌<◌}
 use native.Mathlib.Nat.{mul-le-mul_right}
 use native.Mathlib.Decide.{dec_le, dec_lt}
 use native.Mathlib.Omega.{arith}
-use mathlib.Core.Path.{◌≡◌, refl, sym, ap, ◌∙◌, subst}
-use mathlib.Core.Bool.{Bool, true, false}
-use lib.Dec.{ltb}
+use mathlib.Core.Path.{◌≡◌, sym, ap, ◌∙◌, subst}
+use mathlib.Core.Bool.{true, false}
 use lib.Pow.{pow_pos}
-use lib.Ieee.{Float, nan, inf, fin, binary32, up, down, below, lt, of_bits}
+use lib.Ieee.{Float, nan, inf, fin, binary32, up, down, lt, of_bits}
 use lib.Ieee.Exact.{HasValue}
 use lib.Ieee.Fits.{down_pos}
 use lib.Ieee.Order.{transfer}

@@ -1,4 +1,6 @@
 // The square root of a binary32, on its 32 bits. (The Rust calls f32's sqrt; here it is computed.)
+#![tactic(auto)]
+
 ghost use Rattle.std.specs.Prelude.{◌≡◌, ◌+◌, ◌*◌, ◌^◌, ◌≤◌, ◌<◌};
 ghost use Rattle.std.specs.Float.{binary32};
 ghost use Rattle.std.specs.Float.Ieee.{to_bits, of_bits};

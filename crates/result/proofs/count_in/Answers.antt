@@ -1,11 +1,7 @@
-use mathlib.Core.Logic.{⊎_elim}
-use mathlib.Core.Path.{◌≡◌}
-use Prim.Native.Nat.{◌-◌, ◌+◌, ◌≤◌}
 use native.Mathlib.Omega.{arith}
-use lib.ListN.{take, drop}
-use Rattle.result.specs.Recalls.{count_of}
 use Rattle.result.proofs.Counts.{count_yes, count_no, count-end}
 use Rattle.result.proofs.count_in.Goals as goal
+use Rattle.result.proofs.count_in.Goals.{then-ids-i, else-ids-i}
 
 pub loop-i-init : goal.loop-i-init
 loop-i-init c = (omega arith, (omega arith, omega arith))
@@ -26,7 +22,13 @@ pub loop-i-smaller : goal.loop-i-smaller
 loop-i-smaller c = omega arith
 
 pub loop-i-preserved : goal.loop-i-preserved
-loop-i-preserved c = let l = c.loop-i in let a = c.args in ⊎_elim (λ w. omega (arith, count_yes a.ids.now a.n l.i (omega arith) (omega arith) a.x w.0.taken)) (λ w. omega (arith, count_no a.ids.now a.n l.i (omega arith) (omega arith) a.x w.0.left)) c.if-ids-i.branch
+loop-i-preserved c =
+    let l = c.loop-i in
+    let a = c.args in
+    elim c.if-ids-i.branch [
+      | then-ids-i w ↦ omega (arith, count_yes a.ids.now a.n l.i (omega arith) (omega arith) a.x w.if-ids-i.true)
+      | else-ids-i w ↦ omega (arith, count_no a.ids.now a.n l.i (omega arith) (omega arith) a.x w.if-ids-i.false)
+    ]
 
 pub returns : goal.returns
 returns c = let l = c.loop-i in let a = c.args in omega (arith, count-end a.ids.now a.n l.i (omega arith) (omega arith) a.x)

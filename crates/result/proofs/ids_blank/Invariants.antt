@@ -1,10 +1,7 @@
-use borrow.Author.Tests.{eq-eqb, ne_eqb}
-use mathlib.Core.Path.{◌≡◌, refl, sym, ◌∙◌}
+use mathlib.Core.Path.{◌≡◌}
 use Prim.Native.Nat.{◌-◌}
-use native.Mathlib.Omega.{arith}
 use lib.ListN.{length, drop}
 use Rattle.result.specs.Lists.{all_of, is_zero}
-use Rattle.result.proofs.Tests.{all_more, all-fails, all_done}
 use Rattle.result.proofs.ids_blank.Given as goal
 
 abbrev pub invariant-loop-i : goal.invariant-loop-i

@@ -1,9 +1,6 @@
-use mathlib.Core.Path.{◌≡◌}
-use Prim.Native.Nat.{◌-◌, ◌+◌, ◌*◌, ◌≤◌}
 use native.Mathlib.Omega.{arith}
-use lib.ListN.{take, drop, get_or}
+use lib.ListN.{take, get_or}
 use lib.Seq.{length-take-le}
-use Rattle.result.specs.Recalls.{pairsOf}
 use Rattle.result.proofs.Counts.{pairs-more, pairs_end, count-le}
 use Rattle.result.proofs.pairs_in.Goals as goal
 

@@ -1,12 +1,7 @@
-use lib.Dec.{T}
-use mathlib.Core.Path.{subst}
-use mathlib.Core.Path.{◌≡◌, refl, sym, ◌∙◌}
+use mathlib.Core.Path.{◌≡◌}
 use Prim.Native.Nat.{◌-◌}
-use native.Mathlib.Omega.{arith}
 use lib.ListN.{length, drop}
-use lib.Ieee.{nan}
 use Rattle.result.specs.Lists.{all_of, isBlank}
-use Rattle.result.proofs.Tests.{all_more, all-fails, all_done, other-held, blank-nan, not-blank, blank}
 use Rattle.result.proofs.sims_blank.Given as goal
 
 abbrev pub invariant-loop-i : goal.invariant-loop-i

@@ -1,12 +1,11 @@
 use lib.Seq.{get_or-take, length-take-le}
 use Prim.Native.Nat.{◌<◌}
 use borrow.Author.Rules.{rules}
-use mathlib.Core.Path.{◌≡◌, refl, sym, ◌∙◌}
-use Prim.Native.Nat.{◌≤◌, ◌-◌}
+use mathlib.Core.Path.{refl, sym, ◌∙◌}
 use native.Mathlib.Omega.{arith}
-use lib.ListN.{length, take, drop}
+use lib.ListN.{length, take}
 use lib.Ieee.{nan}
-use Rattle.result.specs.Lists.{all_of, is_held}
+use Rattle.result.specs.Lists.{is_held}
 use Rattle.result.proofs.Tests.{all_more, all-fails, all_done, nan-not-held, other-held}
 use Rattle.result.proofs.sims_held.Goals as goal
 

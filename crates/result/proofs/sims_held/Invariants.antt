@@ -1,13 +1,7 @@
-use lib.Seq.{get_or-take, length-take-le}
-use Prim.Native.Nat.{◌<◌}
-use borrow.Author.Rules.{rules}
-use mathlib.Core.Path.{◌≡◌, refl, sym, ◌∙◌}
+use mathlib.Core.Path.{◌≡◌}
 use Prim.Native.Nat.{◌≤◌, ◌-◌}
-use native.Mathlib.Omega.{arith}
-use lib.ListN.{length, take, drop}
-use lib.Ieee.{nan}
+use lib.ListN.{take, drop}
 use Rattle.result.specs.Lists.{all_of, is_held}
-use Rattle.result.proofs.Tests.{all_more, all-fails, all_done, nan-not-held, other-held}
 use Rattle.result.proofs.sims_held.Given as goal
 
 abbrev pub invariant-loop-i : goal.invariant-loop-i

@@ -1,4 +1,3 @@
-use borrow.Author.Rules.{rules}
 use native.Mathlib.Omega.{arith}
 use Rattle.sqrt.proofs.Near.{small-square}
 use Rattle.sqrt.proofs.above.Goals as goal

@@ -1,7 +1,6 @@
 use mathlib.Core.Path.{sym, ap, ◌∙◌}
 use lib.Ieee.{binary32, to_bits}
 use Rattle.sqrt.proofs.Bits.{only_nan, no_nan, nan-bits}
-use borrow.Author.Rules.{rules}
 use Rattle.sqrt.proofs.bits_of.Goals as goal
 
 pub returns-then-x : goal.returns-then-x

@@ -1,7 +1,6 @@
 use mathlib.Core.Path.{sym, ◌∙◌}
 use Rattle.sqrt.proofs.Bits.{zero_by_zero, reads-nan, reads-number}
 use native.Mathlib.Omega.{arith}
-use borrow.Author.Rules.{rules}
 use Rattle.sqrt.proofs.of_bits.Goals as goal
 
 pub returns-then-n-gt-INFINITY : goal.returns-then-n-gt-INFINITY

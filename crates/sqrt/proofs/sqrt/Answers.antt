@@ -1,5 +1,4 @@
 use mathlib.Core.Path.{ap, ◌∙◌}
-use borrow.Author.Rules.{rules}
 use lib.Ieee.{binary32, of_bits}
 use Rattle.sqrt.specs.RootOf.{root, rootOf}
 use native.Mathlib.Omega.{arith}

@@ -2,12 +2,11 @@
 -- the shift of a subnormal pattern
 use Prim.Native.Nat.{ℕ, ◌+◌, ◌-◌, ◌*◌, ◌/◌, ◌%◌, ◌^◌, ◌<◌}
 use mathlib.Core.Path.{◌≡◌, refl, sym, ap, ◌∙◌}
-use borrow.Author.Rules.{rules}
 use native.Mathlib.Omega.{arith}
 use lib.Count.{count_leading_zeros}
 use Rattle.sqrt.proofs.Near.{is_zero, is-infinity, is-invalid, is-root, normal, subnormal, Shifted, shift-up}
 use Rattle.sqrt.proofs.sqrt_bits.Goals as goal
-use Rattle.sqrt.proofs.sqrt_bits.Tie as tie
+use Rattle.sqrt.proofs.sqrt_bits.Goals.{Else-bits-ge-SIGN}
 
 pub returns-then-digits-eq0 : goal.returns-then-digits-eq0
 returns-then-digits-eq0 c =
@@ -19,20 +18,20 @@ returns-then-bits-ge-SIGN c =
     let b = c.args.bits in
     is-invalid b (omega arith) (λ e. c.if-digits-eq0.false (omega arith)) (omega arith)
 
-shifted : (c : tie.Else-bits-ge-SIGN) → Shifted (c.args.bits % 8388608) (count_leading_zeros 32 (c.args.bits % 8388608))
+shifted : (c : Else-bits-ge-SIGN) → Shifted (c.args.bits % 8388608) (count_leading_zeros 32 (c.args.bits % 8388608))
 shifted c = shift-up (c.args.bits % 8388608) (omega arith) (omega arith)
 
 pub overflow_sub-shift : goal.overflow_sub-shift
-overflow_sub-shift c = omega (arith, (shifted c).least)
+overflow_sub-shift c = omega (arith, (shifted (goal.at.overflow_sub-shift c).Else-bits-ge-SIGN).least)
 
 pub overflow_shl-digits : goal.overflow_shl-digits
-overflow_shl-digits c = omega (arith, (shifted c).most)
+overflow_shl-digits c = omega (arith, (shifted (goal.at.overflow_shl-digits c).Else-bits-ge-SIGN).most)
 
 pub overflow_sub-shift-in-0 : goal.overflow_sub-shift-in-0
-overflow_sub-shift-in-0 c = omega (arith, (shifted c).most)
+overflow_sub-shift-in-0 c = omega (arith, (shifted (goal.at.overflow_sub-shift-in-0 c).Else-bits-ge-SIGN).most)
 
 pub rounded_root-requires : goal.rounded_root-requires
-rounded_root-requires c = omega (arith, shifted c)
+rounded_root-requires c = omega (arith, shifted (goal.at.rounded_root-requires c).Else-bits-ge-SIGN)
 
 pub returns-then-bits-eq-INFINITY : goal.returns-then-bits-eq-INFINITY
 returns-then-bits-eq-INFINITY c =
@@ -42,7 +41,7 @@ returns-then-bits-eq-INFINITY c =
 pub returns-then-bits-ge-SIGN-2 : goal.returns-then-bits-ge-SIGN-2
 returns-then-bits-ge-SIGN-2 c =
     let b = c.args.bits in
-    is-invalid b (omega arith) (λ e. c.in-1-to-254.rest.0.1 (omega arith)) (omega arith)
+    is-invalid b (omega arith) (λ e. omega arith) (omega arith)
 
 unshifted : (x : ℕ) → x < 16777216 → x ≡ x % 4294967296
 unshifted x h = omega arith
@@ -52,7 +51,7 @@ returns-else-bits-ge-SIGN c =
     let b = c.args.bits in
     let t = b % 8388608 in
     let z = count_leading_zeros 32 t in
-    let s = shifted c in
+    let s = shifted (goal.at.returns-else-bits-ge-SIGN c).Else-bits-ge-SIGN in
     is-root b _ c.rounded_root.result (omega arith) (omega arith)
     (ap (λ (x : ℕ). x * 2 ^ 149) (subnormal b t (omega arith) refl) ∙ sym s.same ∙ ap (λ (x : ℕ). x * 2 ^ (125 - (z - 8) + 24)) (unshifted (t * 2 ^ (z - 8)) s.small))
     c.rounded_root.ensures.0 c.rounded_root.ensures.1

@@ -1,7 +1,6 @@
 -- at the break the two candidates are neighbours
-use Prim.Native.Nat.{ℕ, ◌+◌, ◌-◌, ◌*◌, ◌/◌, ◌≤◌, ◌<◌}
+use Prim.Native.Nat.{ℕ, ◌+◌, ◌*◌, ◌/◌, ◌<◌}
 use mathlib.Core.Path.{◌≡◌}
-use borrow.Author.Rules.{rules}
 use native.Mathlib.Omega.{arith}
 use Rattle.sqrt.proofs.Near.{small-square}
 use Rattle.sqrt.proofs.whole_root.Goals as goal

@@ -1,8 +1,4 @@
-use Prim.Native.Nat.{ℕ, ◌+◌, ◌-◌, ◌*◌, ◌/◌, ◌≤◌, ◌<◌}
-use mathlib.Core.Path.{◌≡◌}
-use borrow.Author.Rules.{rules}
-use native.Mathlib.Omega.{arith}
-use Rattle.sqrt.proofs.Near.{small-square}
+use Prim.Native.Nat.{◌-◌, ◌*◌, ◌≤◌, ◌<◌}
 use Rattle.sqrt.proofs.whole_root.Given as goal
 
 abbrev pub invariant-loop-hi : goal.invariant-loop-hi

@@ -1,35 +1,36 @@
-use borrow.Author.Tests.{not-true, not-false}
 use mathlib.Core.Path.{sym, ◌∙◌}
 use native.Mathlib.Omega.{arith}
 use Rattle.result.proofs.Answers.{refused-13, refused-10, refused-12, accepted, form, below-max}
 use Rattle.result.proofs.Tests.{is-nan, no_nan}
-use borrow.Author.Rules.{rules}
 use Rattle.result.proofs.ResultSet.feed.Goals as goal
 
 pub returns-then-not-well_formed : goal.returns-then-not-well_formed
-returns-then-not-well_formed c = refused-13 c.args.self _ _ (sym (not-true _ c.if-not-well_formed.true-raw) ∙ c.well-formed-2.ensures)
+returns-then-not-well_formed c = refused-13 c.args.self _ _ (sym c.if-not-well_formed.true ∙ c.well_formed-2.ensures)
 
 pub returns-then-similarity : goal.returns-then-similarity
 returns-then-similarity c =
     let s = c.args.self in
-    let w = sym c.well-formed-2.ensures ∙ not-false _ c.if-not-well_formed.false-raw in
+    let w = sym c.well_formed-2.ensures ∙ c.if-not-well_formed.false in
     refused-10 s _ _ w (is-nan _ c.if-similarity.true)
 
 pub returns-then-self-eq4294967295 : goal.returns-then-self-eq4294967295
 returns-then-self-eq4294967295 c =
     let s = c.args.self in
-    let w = sym c.well-formed-2.ensures ∙ not-false _ c.if-not-well_formed.false-raw in
+    let w = sym c.well_formed-2.ensures ∙ c.if-not-well_formed.false in
     refused-12 s _ _ w (no_nan _ c.if-similarity.false) c.if-self-eq4294967295.true
 
 pub ranked-self-requires : goal.ranked-self-requires
 ranked-self-requires c =
     let s = c.args.self in
-    let w = sym c.well-formed-2.ensures ∙ not-false _ c.if-not-well_formed.false-raw in
+    let w = sym c.well_formed-2.ensures ∙ c.if-not-well_formed.false in
     let f = form s w in
-    ((f.short, f.small), below-max s.checked 4294967295 (omega (arith, c.well-formed.0.1.1.1.1.1.1.0.1)) c.if-self-eq4294967295.false)
+    record {
+      len_le_k = (f.short, f.small);
+      checked_bound = below-max s.checked 4294967295 (omega arith) c.if-self-eq4294967295.false;
+    }
 
 pub returns : goal.returns
 returns c =
     let s = c.args.self in
-    let w = sym c.well-formed-2.ensures ∙ not-false _ c.if-not-well_formed.false-raw in
+    let w = sym c.well_formed-2.ensures ∙ c.if-not-well_formed.false in
     accepted s _ _ _ w (no_nan _ c.if-similarity.false) c.if-self-eq4294967295.false c.ranked-self.ensures

@@ -1,5 +1,4 @@
 use Rattle.result.proofs.Answers.{made, made-refused}
-use borrow.Author.Rules.{rules}
 use Rattle.result.proofs.ResultSet.new.Goals as goal
 
 pub returns-then-k-gt256 : goal.returns-then-k-gt256

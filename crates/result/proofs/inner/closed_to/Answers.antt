@@ -1,5 +1,4 @@
 use Rattle.result.proofs.Answers.{full-room, full-none, full-last}
-use borrow.Author.Rules.{rules}
 use Rattle.result.proofs.inner.closed_to.Goals as goal
 
 pub returns-then-len-k : goal.returns-then-len-k

@@ -1,5 +1,4 @@
 -- `result::inner::insert` meets its contract. Assumes nothing.
-use borrow.Author.Rules.{rules}
 use mathlib.Core.Path.{◌∙◌, sym}
 use native.Mathlib.Omega.{arith}
 use Rattle.result.specs.Ranked.{entry}
@@ -14,10 +13,13 @@ returns-then-closed_to c =
     let s = setOf a.ids.now a.sims.now a.len a.k 0 in
     let e = entry a.id a.similarity in
     let p = c.requires in
-    fed-stays s e (omega (arith, p.0, p.1)) (omega (arith, p.0, p.1)) p.0.0 (sym c.closed_to.ensures ∙ c.if-closed_to.true)
+    fed-stays s e (omega (arith, p.len_le_k, p.ids_len)) (omega (arith, p.len_le_k, p.ids_len)) p.len_le_k.0 (sym c.closed_to.ensures ∙ c.if-closed_to.true)
 
 pub put-requires : goal.put-requires
-put-requires c = ((c.requires.len_le_k.0, c.requires.len_le_k.1, found_within c.place_of.ensures c.at-1.given.0.0 c.at-1.given.1), c.requires.ids_len)
+put-requires c = record {
+  len_le_k = (c.requires.len_le_k.0, c.requires.len_le_k.1, found_within c.place_of.ensures c.in-At.at c.in-At.is);
+  ids_len = c.requires.ids_len;
+}
 
 pub returns-in-Held : goal.returns-in-Held
 unfolding entriesOf
@@ -26,7 +28,7 @@ returns-in-Held c =
     let s = setOf a.ids.now a.sims.now a.len a.k 0 in
     let e = entry a.id a.similarity in
     let p = c.requires in
-    fed-held s e (omega (arith, p.0, p.1)) (omega (arith, p.0, p.1)) p.0.0 (sym c.closed_to.ensures ∙ c.if-closed_to.false) (found-held c.place_of.ensures c.enum_told-1.given.1)
+    fed-held s e (omega (arith, p.len_le_k, p.ids_len)) (omega (arith, p.len_le_k, p.ids_len)) p.len_le_k.0 (sym c.closed_to.ensures ∙ c.if-closed_to.false) (found-held c.place_of.ensures c.in-Held.is)
 
 pub returns-in-At : goal.returns-in-At
 unfolding entriesOf
@@ -35,4 +37,4 @@ returns-in-At c =
     let s = setOf a.ids.now a.sims.now a.len a.k 0 in
     let e = entry a.id a.similarity in
     let p = c.requires in
-    fed-put s e (omega (arith, p.0, p.1)) (omega (arith, p.0, p.1)) p.0.0 c.at-1.given.0.0 _ (sym c.closed_to.ensures ∙ c.if-closed_to.false) (found_at c.place_of.ensures c.at-1.given.0.0 c.at-1.given.1) c.put.ensures
+    fed-put s e (omega (arith, p.len_le_k, p.ids_len)) (omega (arith, p.len_le_k, p.ids_len)) p.len_le_k.0 c.in-At.at _ (sym c.closed_to.ensures ∙ c.if-closed_to.false) (found_at c.place_of.ensures c.in-At.at c.in-At.is) c.put.ensures

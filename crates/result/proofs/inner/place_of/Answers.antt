@@ -1,8 +1,8 @@
 use borrow.Author.Rules.{rules}
 use mathlib.Core.Path.{◌≡◌, refl, sym, ap, ◌∙◌}
-use Prim.Native.Nat.{ℕ, ◌≤◌, ◌-◌}
+use Prim.Native.Nat.{ℕ}
 use native.Mathlib.Omega.{arith}
-use Rattle.result.specs.Ranked.{entry, larger, placed}
+use Rattle.result.specs.Ranked.{entry, larger}
 use Rattle.result.specs.Places.{entries}
 use Rattle.result.proofs.Walk.{walked, walks-held, walks-found, walks-on, walks-last}
 use Rattle.result.proofs.inner.place_of.Goals as goal

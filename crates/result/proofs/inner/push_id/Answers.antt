@@ -1,11 +1,8 @@
 use borrow.Author.Rules.{rules}
-use mathlib.Core.Path.{◌≡◌, sym, ◌∙◌}
-use Prim.Native.Nat.{◌≤◌, ◌-◌}
+use mathlib.Core.Path.{sym, ◌∙◌}
 use native.Mathlib.Omega.{arith}
-use mathlib.Core.List.{◌++◌}
-use lib.ListN.{length, take, drop, length-set}
-use Rattle.result.specs.Lists.{insertAt}
-use Rattle.result.proofs.Push.{pushed, push-starts, push-turns, push-ends}
+use lib.ListN.{length-set}
+use Rattle.result.proofs.Push.{push-starts, push-turns, push-ends}
 use Rattle.result.proofs.inner.push_id.Goals as goal
 
 pub loop-j-init : goal.loop-j-init

@@ -1,12 +1,9 @@
-use borrow.Author.Rules.{rules}
-use mathlib.Core.Path.{◌≡◌, sym, ◌∙◌}
+use mathlib.Core.Path.{◌≡◌}
 use Prim.Native.Nat.{◌≤◌, ◌-◌}
-use native.Mathlib.Omega.{arith}
 use mathlib.Core.List.{◌++◌}
-use lib.ListN.{length, take, drop, length-set}
-use lib.Ieee.{nan}
+use lib.ListN.{length, take, drop}
 use Rattle.result.specs.Lists.{insertAt}
-use Rattle.result.proofs.Push.{pushed, push-starts, push-turns, push-ends}
+use Rattle.result.proofs.Push.{pushed}
 use Rattle.result.proofs.inner.push_sim.Given as goal
 
 abbrev pub invariant-loop-j : goal.invariant-loop-j

@@ -1,5 +1,4 @@
 -- `result::inner::put` meets its contract. Assumes nothing.
-use borrow.Author.Rules.{rules}
 use mathlib.Core.Path.{refl, ◌∙◌}
 use native.Mathlib.Omega.{arith}
 use Prim.Native.Nat.{◌+◌}
@@ -17,7 +16,7 @@ returns-then-len-k c =
     let e = entry a.id a.similarity in
     let p = c.requires in
     shifts s a.at (a.len + 1) (a.len + 1) e _ _ c.push_id.ensures c.push_sim.ensures refl
-    ∙ put-room s (omega (arith, p.0, p.1)) (omega (arith, p.0, p.1)) a.at e p.0.2 c.if-len-k.true
+    ∙ put-room s (omega (arith, p.len_le_k, p.ids_len)) (omega (arith, p.len_le_k, p.ids_len)) a.at e p.len_le_k.2 c.if-len-k.true
 
 pub returns-then-at-k : goal.returns-then-at-k
 unfolding entriesOf
@@ -27,7 +26,7 @@ returns-then-at-k c =
     let e = entry a.id a.similarity in
     let p = c.requires in
     shifts s a.at a.k a.k e _ _ c.push_id-then-at-k.ensures c.push_sim-then-at-k.ensures refl
-    ∙ put_full s (omega (arith, p.0, p.1)) (omega (arith, p.0, p.1)) a.at e p.0.2 (omega (arith, p.0, c.if-len-k.false))
+    ∙ put_full s (omega (arith, p.len_le_k, p.ids_len)) (omega (arith, p.len_le_k, p.ids_len)) a.at e p.len_le_k.2 (omega (arith, p.len_le_k, c.if-len-k.false))
 
 pub returns : goal.returns
 unfolding entriesOf
@@ -36,4 +35,4 @@ returns c =
     let s = setOf a.ids.now a.sims.now a.len a.k 1 in
     let e = entry a.id a.similarity in
     let p = c.requires in
-    put-none s (omega (arith, p.0, p.1)) (omega (arith, p.0, p.1)) a.at e p.0.2 (omega (arith, p.0, c.if-len-k.false)) (omega (arith, p.0, c.if-len-k.false, c.if-at-k.false))
+    put-none s (omega (arith, p.len_le_k, p.ids_len)) (omega (arith, p.len_le_k, p.ids_len)) a.at e p.len_le_k.2 (omega (arith, p.len_le_k, c.if-len-k.false)) (omega (arith, p.len_le_k, c.if-len-k.false, c.if-at-k.false))

@@ -1,5 +1,4 @@
 -- `result::inner::ranked` meets its contract. Assumes nothing.
-use borrow.Author.Rules.{rules}
 use Rattle.result.specs.Ranked.{entry}
 use Rattle.result.proofs.Answers.{recount}
 use Rattle.result.proofs.inner.ranked.Goals as goal

@@ -1,14 +1,9 @@
-use mathlib.Core.Path.{◌≡◌, refl, sym, ap, ◌∙◌}
-use Prim.Native.Nat.{ℕ, ◌+◌, ◌-◌, ◌*◌, ◌/◌, ◌<◌, ◌≤◌}
-use native.Mathlib.Omega.{arith}
-use borrow.Author.Rules.{rules}
-use borrow.Author.Tests.{not-true, not-false}
+use mathlib.Core.Path.{◌≡◌}
+use Prim.Native.Nat.{◌-◌, ◌*◌, ◌≤◌}
 use lib.ListN.{length, drop}
 use lib.Seq.{sets}
 use Rattle.paper.specs.Geometry.{compSize}
-use Rattle.paper.proofs.Geometry.{comp-low}
 use Rattle.quantization.specs.Stored.{lowerBytes}
-use Rattle.quantization.proofs.Copies.{fit, unfit, room, marshal-start, marshal-step, marshal-end, marshal-unknown, marshal-short, marshal-done}
 use Rattle.quantization.proofs.marshal.Given as goal
 
 abbrev pub invariant-loop-i : goal.invariant-loop-i

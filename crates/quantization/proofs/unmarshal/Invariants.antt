@@ -1,14 +1,9 @@
-use mathlib.Core.Path.{◌≡◌, refl, sym, ap, ◌∙◌}
-use Prim.Native.Nat.{ℕ, ◌+◌, ◌-◌, ◌*◌, ◌/◌, ◌%◌, ◌<◌, ◌≤◌}
-use native.Mathlib.Omega.{arith}
-use borrow.Author.Rules.{rules}
-use borrow.Author.Tests.{not-true, not-false}
-use lib.ListN.{length, length-set}
+use mathlib.Core.Path.{◌≡◌}
+use Prim.Native.Nat.{◌-◌, ◌*◌, ◌≤◌}
+use lib.ListN.{length}
 use lib.Seq.{sets}
 use Rattle.paper.specs.Geometry.{compSize}
-use Rattle.paper.proofs.Geometry.{comp-low}
-use Rattle.quantization.specs.Stored.{componentAt, components}
-use Rattle.quantization.proofs.Copies.{room, unmarshal-start, unmarshal-step, unmarshal-end, unmarshal-unknown, unmarshal-uneven, unmarshal-short, unmarshal-done}
+use Rattle.quantization.specs.Stored.{components}
 use Rattle.quantization.proofs.unmarshal.Given as goal
 
 abbrev pub invariant-loop-i : goal.invariant-loop-i

@@ -1,9 +1,6 @@
 use mathlib.Core.Path.{◌≡◌}
-use Prim.Native.Nat.{suc, ◌+◌, ◌-◌, ◌^◌, ◌<◌, ◌≤◌}
-use borrow.Author.Rules.{rules}
-use native.Mathlib.Omega.{arith}
+use Prim.Native.Nat.{◌+◌, ◌-◌, ◌^◌, ◌<◌, ◌≤◌}
 use Rattle.quantization.specs.Bytes.{leWord}
-use Rattle.quantization.proofs.Bytes.{word_none, word-step, word_fits, seven, pow-some}
 use Rattle.quantization.proofs.inner.get_le.Given as goal
 
 abbrev pub invariant-loop-j : goal.invariant-loop-j

@@ -1,12 +1,8 @@
-use mathlib.Core.Path.{refl, sym, ◌∙◌}
-use Prim.Native.Nat.{◌+◌, ◌-◌, ◌%◌, ◌≤◌}
-use borrow.Author.Rules.{rules}
-use native.Mathlib.Omega.{arith}
+use Prim.Native.Nat.{◌+◌, ◌-◌, ◌≤◌}
 use mathlib.Core.Path.{◌≡◌}
-use lib.ListN.{length, length-set}
+use lib.ListN.{length}
 use lib.Seq.{sets}
 use Rattle.quantization.specs.Bytes.{le_bytes}
-use Rattle.quantization.proofs.Bytes.{put-start, put_step, put-end}
 use Rattle.quantization.proofs.inner.put_le.Given as goal
 
 abbrev pub invariant-loop-j : goal.invariant-loop-j

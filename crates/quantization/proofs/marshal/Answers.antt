@@ -1,5 +1,3 @@
--- storing the components that are left gives what storing all of them gave
--- in the loop: the components fit, and so does this one
 use mathlib.Core.Path.{◌≡◌, refl, sym, ap, ◌∙◌}
 use Prim.Native.Nat.{ℕ, ◌+◌, ◌*◌, ◌/◌, ◌<◌, ◌≤◌}
 use native.Mathlib.Omega.{arith}
@@ -24,6 +22,7 @@ returns-then-array-size c =
 pub loop-i-init : goal.loop-i-init
 loop-i-init c = (omega arith, refl, marshal-start c.args.mode c.args.v.now c.args.array.now)
 
+-- in the loop: the components fit, and so does this one
 fits_all : (c : In-loop-i) → length c.args.v.now ≤ length c.args.array.now / compSize c.args.mode
 fits_all c = rw c.component_size-size.ensures at c.if-array-size.false
 

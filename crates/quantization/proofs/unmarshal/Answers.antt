@@ -1,5 +1,3 @@
--- storing the components that are left gives what storing all of them gave
--- in the loop: this component is there
 use mathlib.Core.Path.{◌≡◌, refl, sym, ap, ◌∙◌}
 use Prim.Native.Nat.{ℕ, ◌+◌, ◌*◌, ◌/◌, ◌%◌, ◌<◌, ◌≤◌}
 use native.Mathlib.Omega.{arith}
@@ -35,6 +33,7 @@ returns-then-out-n c =
 pub loop-i-init : goal.loop-i-init
 loop-i-init c = (omega arith, refl, unmarshal-start c.args.mode c.args.array.now _ c.args.out.now)
 
+-- in the loop: this component is there
 there : (c : In-loop-i) → c.loop-i.i * compSize c.args.mode + compSize c.args.mode ≤ length c.args.array.now
 there c =
     let h : c.loop-i.i < length c.args.array.now / compSize c.args.mode = rw c.component_size-size.ensures at c.loop-i-test.true in

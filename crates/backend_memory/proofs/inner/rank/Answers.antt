@@ -1,10 +1,4 @@
 -- `backend_memory::inner::rank` meets its contract: what is fed, and the ids that are left, make the whole answer. Assumes nothing.
--- an id was found
--- the size of a slot
--- its slot is within the stored vectors
--- a candidate that the full list is closed to: it is counted, which is what feeding it comes to, and the bar rises to it
--- a candidate that is fed: what the list was closed to, it stays closed to
--- a candidate below the bar: it is counted, and that is all
 use borrow.Author.Rules.{rules}
 use native.Mathlib.Omega.{arith}
 use native.Mathlib.Nat.{mul-le-mul}
@@ -45,15 +39,18 @@ loop-id-init c =
     let k = c.args.k in
     (search rules, omega arith, omega arith, sound_empty k c.requires.k-high, rw walk_start, λ q l. absurd (omega arith), ap (inOrder larger) (entries_none k))
 
+-- an id was found
 got : (c : In-At) → NextIs c.args.ids.now c.loop-id.at (At c.in-At.id)
 got c = rw c.in-At.is at c.next.ensures
 
 low : (c : In-At) → c.in-At.id < 65536
 low c = omega (arith, (got c).1, c.requires.set)
 
+-- the size of a slot
 size : (c : In-At) → c.component_size.result * length c.args.target.now ≡ slotBytes (length c.args.target.now) c.args.mode
 size c = ap (λ (s : ℕ). s * length c.args.target.now) c.component_size.ensures
 
+-- its slot is within the stored vectors
 room : (c : In-At) → c.in-At.id * (c.component_size.result * length c.args.target.now) + c.component_size.result * length c.args.target.now ≤ length c.args.vectors.now
 room c =
     rw (size c, c.requires.vectors)
@@ -99,6 +96,7 @@ closed_to-requires c = omega (arith, c.loop-id.invariant.1, c.requires.k-high, c
 pub loop-id-smaller-then-closed_to : goal.loop-id-smaller-then-closed_to
 loop-id-smaller-then-closed_to c = omega (arith, (got (goal.at.loop-id-smaller-then-closed_to c).In-At).0, (got (goal.at.loop-id-smaller-then-closed_to c).In-At).1)
 
+-- a candidate that the full list is closed to: it is counted, which is what feeding it comes to, and the bar rises to it
 pub loop-id-preserved-then-closed_to : goal.loop-id-preserved-then-closed_to
 loop-id-preserved-then-closed_to c =
     let a = c.args in
@@ -129,6 +127,7 @@ insert-len-requires c = record { len_le_k = (c.loop-id.invariant.1, c.requires.k
 pub loop-id-smaller-else-closed_to : goal.loop-id-smaller-else-closed_to
 loop-id-smaller-else-closed_to c = omega (arith, (got (goal.at.loop-id-smaller-else-closed_to c).In-At).0, (got (goal.at.loop-id-smaller-else-closed_to c).In-At).1)
 
+-- a candidate that is fed: what the list was closed to, it stays closed to
 pub loop-id-preserved-else-closed_to : goal.loop-id-preserved-else-closed_to
 loop-id-preserved-else-closed_to c =
     let a = c.args in
@@ -152,6 +151,7 @@ loop-id-preserved-else-closed_to c =
 pub loop-id-smaller : goal.loop-id-smaller
 loop-id-smaller c = omega (arith, (got (goal.at.loop-id-smaller c).In-At).0, (got (goal.at.loop-id-smaller c).In-At).1)
 
+-- a candidate below the bar: it is counted, and that is all
 pub loop-id-preserved : goal.loop-id-preserved
 loop-id-preserved c =
     let a = c.args in

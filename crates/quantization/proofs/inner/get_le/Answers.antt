@@ -1,4 +1,3 @@
--- r is the number of the bytes from j on
 use mathlib.Core.Path.{◌≡◌}
 use Prim.Native.Nat.{suc, ◌+◌, ◌-◌}
 use native.Mathlib.Omega.{arith}

@@ -3,6 +3,7 @@ use Prim.Native.Nat.{◌+◌, ◌-◌, ◌^◌, ◌<◌, ◌≤◌}
 use Rattle.quantization.specs.Bytes.{leWord}
 use Rattle.quantization.proofs.inner.get_le.Given as goal
 
+-- r is the number of the bytes from j on
 abbrev pub invariant-loop-j : goal.invariant-loop-j
 invariant-loop-j l = (l.j ≤ l.size) × (l.r ≡ leWord l.s (l.at + l.j) (l.size - l.j)) × (l.r < 256 ^ (l.size - l.j))
 

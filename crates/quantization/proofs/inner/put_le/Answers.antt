@@ -1,4 +1,3 @@
--- storing the bytes that are left gives what storing all of them gave
 use mathlib.Core.Path.{refl, sym, ◌∙◌}
 use Prim.Native.Nat.{◌+◌, ◌%◌}
 use native.Mathlib.Omega.{arith}

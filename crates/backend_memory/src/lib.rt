@@ -1,5 +1,7 @@
 // The stored vectors of an index in lent memory, and their ranking by distance from a target: backend_memory.rs, and find_nearest of backend.rs.
 // Marks say which ids are present, and the vector of id i is the i-th slot of the bytes.
+#![tactic(auto)]
+
 ghost use Rattle.std.specs.Prelude.{◌≡◌};
 ghost use Rattle.paper.specs.Geometry.{geo};
 ghost use Rattle.backend_memory.specs.Scan.{scanRefusal, scanOf};

@@ -1,5 +1,7 @@
 // The calls for C and Rust that take numbers and answer a number: roots and halves by their bits, and how much a caller has to lend. Each is the
 // public function that its comment names; none asks anything of its caller.
+#![tactic(auto)]
+
 ghost use Rattle.std.specs.Prelude.{◌≡◌};
 ghost use Rattle.paper.specs.Geometry.{geo, lengthsOf};
 ghost use Rattle.sqrt.specs.Root.{Sqrt};

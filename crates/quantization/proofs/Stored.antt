@@ -181,7 +181,7 @@ components-back mode s at (x ∷ xs) f h =
     comp-below mode t (lowerBytes mode xs) (at + w) at (omega arith) ∙ comp-back mode s at x (f 0) (omega arith) in
     let rest : components mode (sets t (at + w) (lowerBytes mode xs)) (at + w) (length xs) ≡ map (restored mode) xs =
     components-back mode t (at + w) xs (λ i. f (suc i)) (omega arith) in
-    rw (e, here, rest)
+    ap (λ (b : List ℕ). components mode b at (suc (length xs))) e ∙ rw (here, rest)
 
 -- ---- what is read again
 

@@ -1,7 +1,7 @@
 -- Copying a vector out into bytes, and reading one (01, "bf16"; quantization.rs's marshal and unmarshal): for every input the answer and the
 -- target afterwards. An unknown mode is refused by 1, then a wrong length by 2; a refused target stays as it was, and an accepted one beyond
 -- what was written.
-use Rattle.std.specs.Prelude.{List, ◌++◌, ℕ, ◌+◌, ◌*◌, ◌/◌, ◌%◌, leb, eqb, length, drop, Float}
+use Rattle.std.specs.Prelude.{List, ◌++◌, ℕ, ◌*◌, ◌/◌, ◌%◌, leb, eqb, length, drop, Float}
 use Rattle.paper.specs.Choice.{pick, refuse}
 use Rattle.paper.specs.Geometry.{modeOk, compSize}
 use Rattle.quantization.specs.Stored.{lowerBytes, components}

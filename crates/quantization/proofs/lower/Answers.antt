@@ -1,6 +1,5 @@
 use Prim.Native.Nat.{◌/◌}
 use mathlib.Core.Path.{sym}
-use borrow.Author.Rules.{rules}
 use native.Mathlib.Omega.{arith}
 use lib.Bits.{or_lt}
 use Rattle.quantization.proofs.Halves.{lowered-nan, lowered-up, lowered-tie, lowered-down}

@@ -1,21 +1,15 @@
--- storing the components that are left gives what storing all of them gave
--- in the loop: the components fit, and so does this one
 use mathlib.Core.Path.{◌≡◌, refl, sym, ap, ◌∙◌}
-use Prim.Native.Nat.{ℕ, ◌+◌, ◌-◌, ◌*◌, ◌/◌, ◌<◌, ◌≤◌}
+use Prim.Native.Nat.{ℕ, ◌+◌, ◌*◌, ◌/◌, ◌<◌, ◌≤◌}
 use native.Mathlib.Omega.{arith}
-use borrow.Author.Rules.{rules}
-use borrow.Author.Tests.{not-true, not-false}
-use lib.ListN.{length, drop}
-use lib.Seq.{sets}
+use lib.ListN.{length}
 use Rattle.paper.specs.Geometry.{compSize}
 use Rattle.paper.proofs.Geometry.{comp-low}
-use Rattle.quantization.specs.Stored.{lowerBytes}
 use Rattle.quantization.proofs.Copies.{fit, unfit, room, marshal-start, marshal-step, marshal-end, marshal-unknown, marshal-short, marshal-done}
 use Rattle.quantization.proofs.marshal.Goals as goal
-use Rattle.quantization.proofs.marshal.Tie as tie
+use Rattle.quantization.proofs.marshal.Goals.{In-loop-i}
 
 pub returns-then-not-mode_ok : goal.returns-then-not-mode_ok
-returns-then-not-mode_ok c = marshal-unknown c.args.mode c.args.v.now c.args.array.now (sym c.mode_ok.ensures ∙ not-true _ c.if-not-mode_ok.true-raw)
+returns-then-not-mode_ok c = marshal-unknown c.args.mode c.args.v.now c.args.array.now (sym c.mode_ok.ensures ∙ c.if-not-mode_ok.true)
 
 pub nonzero_div-array : goal.nonzero_div-array
 nonzero_div-array c = omega (arith, c.component_size-size.ensures, comp-low c.args.mode)
@@ -23,32 +17,33 @@ nonzero_div-array c = omega (arith, c.component_size-size.ensures, comp-low c.ar
 pub returns-then-array-size : goal.returns-then-array-size
 returns-then-array-size c =
     let h : length c.args.array.now / compSize c.args.mode < length c.args.v.now = rw c.component_size-size.ensures at c.if-array-size.true in
-    marshal-short c.args.mode c.args.v.now c.args.array.now (sym c.mode_ok.ensures ∙ not-false _ c.if-not-mode_ok.false-raw) (unfit c.args.mode (length c.args.v.now) (length c.args.array.now) h)
+    marshal-short c.args.mode c.args.v.now c.args.array.now (sym c.mode_ok.ensures ∙ c.if-not-mode_ok.false) (unfit c.args.mode (length c.args.v.now) (length c.args.array.now) h)
 
 pub loop-i-init : goal.loop-i-init
 loop-i-init c = (omega arith, refl, marshal-start c.args.mode c.args.v.now c.args.array.now)
 
-fits_all : (c : tie.In-loop-i invariant-loop decreases-loop) → length c.args.v.now ≤ length c.args.array.now / compSize c.args.mode
+-- in the loop: the components fit, and so does this one
+fits_all : (c : In-loop-i) → length c.args.v.now ≤ length c.args.array.now / compSize c.args.mode
 fits_all c = rw c.component_size-size.ensures at c.if-array-size.false
 
-fits-here : (c : tie.In-loop-i invariant-loop decreases-loop) → c.loop-i.i * compSize c.args.mode + compSize c.args.mode ≤ length c.args.array.now
+fits-here : (c : In-loop-i) → c.loop-i.i * compSize c.args.mode + compSize c.args.mode ≤ length c.args.array.now
 fits-here c = room c.args.mode c.loop-i.i (length c.args.v.now) (length c.args.array.now) c.loop-i-test.true (fits_all c)
 
-place : (c : tie.In-loop-i invariant-loop decreases-loop) → c.loop-i.i * c.component_size-size.result ≡ c.loop-i.i * compSize c.args.mode
+place : (c : In-loop-i) → c.loop-i.i * c.component_size-size.result ≡ c.loop-i.i * compSize c.args.mode
 place c = ap (λ (x : ℕ). c.loop-i.i * x) c.component_size-size.ensures
 
 pub overflow_mul-i : goal.overflow_mul-i
-overflow_mul-i c = omega (arith, place c, fits-here c, c.well-formed.1.1.0.0)
+overflow_mul-i c = omega (arith, place (goal.at.overflow_mul-i c).In-loop-i, fits-here (goal.at.overflow_mul-i c).In-loop-i)
 
 pub put_component-requires : goal.put_component-requires
-put_component-requires c = omega (arith, place c, fits-here c, c.loop-i.invariant.1)
+put_component-requires c = omega (arith, place (goal.at.put_component-requires c).In-loop-i, fits-here (goal.at.put_component-requires c).In-loop-i, c.loop-i.invariant.1)
 
 pub loop-i-preserved : goal.loop-i-preserved
 loop-i-preserved c = (
   omega arith,
   c.put_component.auto.array ∙ c.loop-i.invariant.1,
   marshal-step c.args.mode c.args.v.now c.loop-i.array c.put_component.new.array c.loop-i.i (omega arith)
-      (rw (place c) at c.put_component.ensures)
+      (rw (place (goal.at.loop-i-preserved c).In-loop-i) at c.put_component.ensures)
       ∙ c.loop-i.invariant.2,
 )
 
@@ -58,5 +53,5 @@ shape_of-array c = c.loop-i.invariant.1
 pub returns : goal.returns
 returns c =
     let h : length c.args.v.now ≤ length c.args.array.now / compSize c.args.mode = rw c.component_size-size.ensures at c.if-array-size.false in
-    marshal-done c.args.mode c.args.v.now c.args.array.now c.loop-i.array (sym c.mode_ok.ensures ∙ not-false _ c.if-not-mode_ok.false-raw) (fit c.args.mode (length c.args.v.now) (length c.args.array.now) h)
+    marshal-done c.args.mode c.args.v.now c.args.array.now c.loop-i.array (sym c.mode_ok.ensures ∙ c.if-not-mode_ok.false) (fit c.args.mode (length c.args.v.now) (length c.args.array.now) h)
     (sym (marshal-end c.args.mode c.args.v.now c.loop-i.array c.loop-i.i (c.loop-i.i * compSize c.args.mode) (omega arith)) ∙ c.loop-i.invariant.2)

@@ -1,10 +1,6 @@
--- storing the components that are left gives what storing all of them gave
--- in the loop: this component is there
 use mathlib.Core.Path.{◌≡◌, refl, sym, ap, ◌∙◌}
-use Prim.Native.Nat.{ℕ, ◌+◌, ◌-◌, ◌*◌, ◌/◌, ◌%◌, ◌<◌, ◌≤◌}
+use Prim.Native.Nat.{ℕ, ◌+◌, ◌*◌, ◌/◌, ◌%◌, ◌<◌, ◌≤◌}
 use native.Mathlib.Omega.{arith}
-use borrow.Author.Rules.{rules}
-use borrow.Author.Tests.{not-true, not-false}
 use lib.ListN.{length, length-set}
 use lib.Seq.{sets}
 use Rattle.paper.specs.Geometry.{compSize}
@@ -12,10 +8,10 @@ use Rattle.paper.proofs.Geometry.{comp-low}
 use Rattle.quantization.specs.Stored.{componentAt, components}
 use Rattle.quantization.proofs.Copies.{room, unmarshal-start, unmarshal-step, unmarshal-end, unmarshal-unknown, unmarshal-uneven, unmarshal-short, unmarshal-done}
 use Rattle.quantization.proofs.unmarshal.Goals as goal
-use Rattle.quantization.proofs.unmarshal.Tie as tie
+use Rattle.quantization.proofs.unmarshal.Goals.{In-loop-i}
 
 pub returns-then-not-mode_ok : goal.returns-then-not-mode_ok
-returns-then-not-mode_ok c = unmarshal-unknown c.args.mode c.args.array.now c.args.out.now (sym c.mode_ok.ensures ∙ not-true _ c.if-not-mode_ok.true-raw)
+returns-then-not-mode_ok c = unmarshal-unknown c.args.mode c.args.array.now c.args.out.now (sym c.mode_ok.ensures ∙ c.if-not-mode_ok.true)
 
 pub nonzero_rem-array : goal.nonzero_rem-array
 nonzero_rem-array c = omega (arith, c.component_size-size.ensures, comp-low c.args.mode)
@@ -23,7 +19,7 @@ nonzero_rem-array c = omega (arith, c.component_size-size.ensures, comp-low c.ar
 pub returns-then-array-size-ne0 : goal.returns-then-array-size-ne0
 returns-then-array-size-ne0 c =
     let h : length c.args.array.now % compSize c.args.mode ≡ 0 → ⊥ = rw c.component_size-size.ensures at c.if-array-size-ne0.true in
-    unmarshal-uneven c.args.mode c.args.array.now c.args.out.now (sym c.mode_ok.ensures ∙ not-false _ c.if-not-mode_ok.false-raw) h
+    unmarshal-uneven c.args.mode c.args.array.now c.args.out.now (sym c.mode_ok.ensures ∙ c.if-not-mode_ok.false) h
 
 pub nonzero_div-n : goal.nonzero_div-n
 nonzero_div-n c = omega (arith, c.component_size-size.ensures, comp-low c.args.mode)
@@ -32,31 +28,32 @@ pub returns-then-out-n : goal.returns-then-out-n
 returns-then-out-n c =
     let e : length c.args.array.now % compSize c.args.mode ≡ 0 = rw c.component_size-size.ensures at c.if-array-size-ne0.false in
     let h : length c.args.out.now < length c.args.array.now / compSize c.args.mode = rw c.component_size-size.ensures at c.if-out-n.true in
-    unmarshal-short c.args.mode c.args.array.now c.args.out.now (sym c.mode_ok.ensures ∙ not-false _ c.if-not-mode_ok.false-raw) e h
+    unmarshal-short c.args.mode c.args.array.now c.args.out.now (sym c.mode_ok.ensures ∙ c.if-not-mode_ok.false) e h
 
 pub loop-i-init : goal.loop-i-init
 loop-i-init c = (omega arith, refl, unmarshal-start c.args.mode c.args.array.now _ c.args.out.now)
 
-there : (c : tie.In-loop-i invariant-loop decreases-loop) → c.loop-i.i * compSize c.args.mode + compSize c.args.mode ≤ length c.args.array.now
+-- in the loop: this component is there
+there : (c : In-loop-i) → c.loop-i.i * compSize c.args.mode + compSize c.args.mode ≤ length c.args.array.now
 there c =
     let h : c.loop-i.i < length c.args.array.now / compSize c.args.mode = rw c.component_size-size.ensures at c.loop-i-test.true in
     room c.args.mode c.loop-i.i (length c.args.array.now / compSize c.args.mode) (length c.args.array.now) h (omega arith)
 
-place : (c : tie.In-loop-i invariant-loop decreases-loop) → c.loop-i.i * c.component_size-size.result ≡ c.loop-i.i * compSize c.args.mode
+place : (c : In-loop-i) → c.loop-i.i * c.component_size-size.result ≡ c.loop-i.i * compSize c.args.mode
 place c = ap (λ (x : ℕ). c.loop-i.i * x) c.component_size-size.ensures
 
 pub overflow_mul-i : goal.overflow_mul-i
-overflow_mul-i c = omega (arith, place c, there c, c.well-formed.1.0.0)
+overflow_mul-i c = omega (arith, place (goal.at.overflow_mul-i c).In-loop-i, there (goal.at.overflow_mul-i c).In-loop-i)
 
 pub component-requires : goal.component-requires
-component-requires c = omega (arith, place c, there c)
+component-requires c = omega (arith, place (goal.at.component-requires c).In-loop-i, there (goal.at.component-requires c).In-loop-i)
 
 pub loop-i-preserved : goal.loop-i-preserved
 loop-i-preserved c = (
   omega arith,
   length-set c.loop-i.out c.loop-i.i c.component.result ∙ c.loop-i.invariant.1,
   unmarshal-step c.args.mode c.args.array.now _ c.loop-i.out c.loop-i.i c.component.result (omega arith)
-      (c.component.ensures ∙ ap (componentAt c.args.mode c.args.array.now) (place c))
+      (c.component.ensures ∙ ap (componentAt c.args.mode c.args.array.now) (place (goal.at.loop-i-preserved c).In-loop-i))
       ∙ c.loop-i.invariant.2,
 )
 
@@ -70,4 +67,4 @@ returns c =
     let h : length c.args.array.now / compSize c.args.mode ≤ length c.args.out.now = rw z at c.if-out-n.false in
     let f : c.loop-i.out ≡ sets c.args.out.now 0 (components c.args.mode c.args.array.now 0 (length c.args.array.now / c.component_size-size.result)) =
     sym (unmarshal-end c.args.mode c.args.array.now (length c.args.array.now / c.component_size-size.result) c.loop-i.out c.loop-i.i (c.loop-i.i * compSize c.args.mode) (omega arith)) ∙ c.loop-i.invariant.2 in
-    unmarshal-done c.args.mode c.args.array.now c.args.out.now c.loop-i.out (sym c.mode_ok.ensures ∙ not-false _ c.if-not-mode_ok.false-raw) e h (rw z at f)
+    unmarshal-done c.args.mode c.args.array.now c.args.out.now c.loop-i.out (sym c.mode_ok.ensures ∙ c.if-not-mode_ok.false) e h (rw z at f)

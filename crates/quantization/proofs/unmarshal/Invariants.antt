@@ -1,16 +1,12 @@
-use mathlib.Core.Path.{◌≡◌, refl, sym, ap, ◌∙◌}
-use Prim.Native.Nat.{ℕ, ◌+◌, ◌-◌, ◌*◌, ◌/◌, ◌%◌, ◌<◌, ◌≤◌}
-use native.Mathlib.Omega.{arith}
-use borrow.Author.Rules.{rules}
-use borrow.Author.Tests.{not-true, not-false}
-use lib.ListN.{length, length-set}
+use mathlib.Core.Path.{◌≡◌}
+use Prim.Native.Nat.{◌-◌, ◌*◌, ◌≤◌}
+use lib.ListN.{length}
 use lib.Seq.{sets}
 use Rattle.paper.specs.Geometry.{compSize}
-use Rattle.paper.proofs.Geometry.{comp-low}
-use Rattle.quantization.specs.Stored.{componentAt, components}
-use Rattle.quantization.proofs.Copies.{room, unmarshal-start, unmarshal-step, unmarshal-end, unmarshal-unknown, unmarshal-uneven, unmarshal-short, unmarshal-done}
+use Rattle.quantization.specs.Stored.{components}
 use Rattle.quantization.proofs.unmarshal.Given as goal
 
+-- storing the components that are left gives what storing all of them gave
 abbrev pub invariant-loop-i : goal.invariant-loop-i
 invariant-loop-i l =
     (l.i ≤ l.n) × (length l.out ≡ length l.initial.out) × (sets l.out l.i (components l.mode l.array (l.i * compSize l.mode) (l.n - l.i)) ≡ sets l.initial.out 0 (components l.mode l.array 0 l.n))

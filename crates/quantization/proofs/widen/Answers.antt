@@ -1,4 +1,3 @@
-use borrow.Author.Rules.{rules}
 use mathlib.Core.Path.{refl}
 use Rattle.quantization.specs.Bf16.{widened}
 use Rattle.quantization.proofs.widen.Goals as goal

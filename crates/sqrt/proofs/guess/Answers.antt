@@ -1,4 +1,3 @@
--- a number below 2 ^ 53 is a float's value
 use Prim.Native.Nat.{ℕ, ◌^◌, ◌<◌}
 use mathlib.Core.Path.{sym, subst}
 use native.Mathlib.Omega.{arith}
@@ -9,8 +8,9 @@ use borrow.Author.Tests.{le-leb}
 use Rattle.sqrt.proofs.Bits.{no_nan}
 use Rattle.sqrt.proofs.guess.Goals as goal
 
+-- a number below 2 ^ 53 is a float's value
 exact : (a : ℕ) → a < 2 ^ 50 → T (in_float binary64 (pos a))
-unfolding in_float prec
+unfolding in_float
 exact a h = subst T (sym (le-leb a 9007199254740992 (omega arith))) tt
 
 pub int_to_float-x : goal.int_to_float-x

@@ -1,5 +1,4 @@
 -- Each arm of the match answers what `Sqrt` says of its class (`Laws`). Assumes nothing.
--- the shift of a subnormal pattern
 use Prim.Native.Nat.{ℕ, ◌+◌, ◌-◌, ◌*◌, ◌/◌, ◌%◌, ◌^◌, ◌<◌}
 use mathlib.Core.Path.{◌≡◌, refl, sym, ap, ◌∙◌}
 use native.Mathlib.Omega.{arith}
@@ -18,6 +17,7 @@ returns-then-bits-ge-SIGN c =
     let b = c.args.bits in
     is-invalid b (omega arith) (λ e. c.if-digits-eq0.false (omega arith)) (omega arith)
 
+-- the shift of a subnormal pattern
 shifted : (c : Else-bits-ge-SIGN) → Shifted (c.args.bits % 8388608) (count_leading_zeros 32 (c.args.bits % 8388608))
 shifted c = shift-up (c.args.bits % 8388608) (omega arith) (omega arith)
 

@@ -1,4 +1,3 @@
--- at the break the two candidates are neighbours
 use Prim.Native.Nat.{ℕ, ◌+◌, ◌*◌, ◌/◌, ◌<◌}
 use mathlib.Core.Path.{◌≡◌}
 use native.Mathlib.Omega.{arith}
@@ -29,6 +28,7 @@ loop-hi-smaller c = omega arith
 pub loop-hi-preserved : goal.loop-hi-preserved
 loop-hi-preserved c = omega arith
 
+-- at the break the two candidates are neighbours
 last : (a lo hi : ℕ) → hi ≡ lo + 1 → a < hi * hi → a < (lo + 1) * (lo + 1)
 last a lo hi e h = rw e at h
 

@@ -1,12 +1,5 @@
 -- `backend_memory::inner::rank` meets its contract: what is fed, and the ids that are left, make the whole answer. Assumes nothing.
--- an id was found
--- the size of a slot
--- its slot is within the stored vectors
--- a candidate that the full list is closed to: it is counted, which is what feeding it comes to, and the bar rises to it
--- a candidate that is fed: what the list was closed to, it stays closed to
--- a candidate below the bar: it is counted, and that is all
 use borrow.Author.Rules.{rules}
-use borrow.Author.Tests.{not-true, not-false}
 use native.Mathlib.Omega.{arith}
 use native.Mathlib.Nat.{mul-le-mul}
 use Prim.Native.Nat.{ℕ, ◌≤◌, ◌<◌, ◌-◌, ◌*◌, ◌+◌}
@@ -33,7 +26,7 @@ use Rattle.result.proofs.Keeps.{entries_none, Sound, sound_empty, sound-fed, clo
 use Rattle.backend_memory.specs.Ranking.{scored, ranking, rank_of, similarityOf}
 use Rattle.backend_memory.proofs.Turns.{ended, no-mark, bad-score, one-fed, score-is, ClosedBelow, bar-closes, bar-raised, closed-number}
 use Rattle.backend_memory.proofs.inner.rank.Goals as goal
-use Rattle.backend_memory.proofs.inner.rank.Tie as tie
+use Rattle.backend_memory.proofs.inner.rank.Goals.{In-At}
 
 pub overflow_mul-slot : goal.overflow_mul-slot
 overflow_mul-slot c =
@@ -46,39 +39,42 @@ loop-id-init c =
     let k = c.args.k in
     (search rules, omega arith, omega arith, sound_empty k c.requires.k-high, rw walk_start, λ q l. absurd (omega arith), ap (inOrder larger) (entries_none k))
 
-got : (c : tie.In-At invariant-loop decreases-loop) → NextIs c.args.ids.now c.loop-id.at (At c.id-1.given.0.0)
-got c = rw c.id-1.given.1 at c.next.ensures
+-- an id was found
+got : (c : In-At) → NextIs c.args.ids.now c.loop-id.at (At c.in-At.id)
+got c = rw c.in-At.is at c.next.ensures
 
-low : (c : tie.In-At invariant-loop decreases-loop) → c.id-1.given.0.0 < 65536
+low : (c : In-At) → c.in-At.id < 65536
 low c = omega (arith, (got c).1, c.requires.set)
 
-size : (c : tie.In-At invariant-loop decreases-loop) → c.component_size.result * length c.args.target.now ≡ slotBytes (length c.args.target.now) c.args.mode
+-- the size of a slot
+size : (c : In-At) → c.component_size.result * length c.args.target.now ≡ slotBytes (length c.args.target.now) c.args.mode
 size c = ap (λ (s : ℕ). s * length c.args.target.now) c.component_size.ensures
 
-room : (c : tie.In-At invariant-loop decreases-loop) → c.id-1.given.0.0 * (c.component_size.result * length c.args.target.now) + c.component_size.result * length c.args.target.now ≤ length c.args.vectors.now
+-- its slot is within the stored vectors
+room : (c : In-At) → c.in-At.id * (c.component_size.result * length c.args.target.now) + c.component_size.result * length c.args.target.now ≤ length c.args.vectors.now
 room c =
     rw (size c, c.requires.vectors)
-    (place c.id-1.given.0.0 (length c.args.ids.now * 64) (slotBytes (length c.args.target.now) c.args.mode) (got c).1)
+    (place c.in-At.id (length c.args.ids.now * 64) (slotBytes (length c.args.target.now) c.args.mode) (got c).1)
 
 pub vector_exists-requires : goal.vector_exists-requires
-vector_exists-requires c = omega (arith, (got c).1, c.requires.marks)
+vector_exists-requires c = omega (arith, (got (goal.at.vector_exists-requires c).In-At).1, c.requires.marks)
 
 pub returns-then-not-vector_exists : goal.returns-then-not-vector_exists
 returns-then-not-vector_exists c =
     let a = c.args in
     let cur : ResultSet = setOf c.loop-id.list c.loop-id.sims c.loop-id.len a.k c.loop-id.checked in
     c.refuse.ensures
-    ∙ no-mark a.marks.now a.ids.now (similarityOf a.mode a.vectors.now a.target.now) cur c.loop-id.at _ (got c) (sym c.vector_exists.ensures ∙ not-true _ c.if-not-vector_exists.true-raw)
+    ∙ no-mark a.marks.now a.ids.now (similarityOf a.mode a.vectors.now a.target.now) cur c.loop-id.at _ (got (goal.at.returns-then-not-vector_exists c).In-At) (sym c.vector_exists.ensures ∙ c.if-not-vector_exists.true)
     ∙ c.loop-id.invariant.4
 
 pub overflow_mul-id : goal.overflow_mul-id
-overflow_mul-id c = omega (arith, room c, c.well-formed)
+overflow_mul-id c = omega (arith, room (goal.at.overflow_mul-id c).In-At)
 
 pub squares-sum-requires : goal.squares-sum-requires
-squares-sum-requires c = omega (arith, room c, size c)
+squares-sum-requires c = omega (arith, room (goal.at.squares-sum-requires c).In-At, size (goal.at.squares-sum-requires c).In-At)
 
 pub overflow_add-at : goal.overflow_add-at
-overflow_add-at c = omega (arith, low c)
+overflow_add-at c = omega (arith, low (goal.at.overflow_add-at c).In-At)
 
 pub overflow_add-checked : goal.overflow_add-checked
 overflow_add-checked c = omega (arith, c.loop-id.invariant.2, c.loop-id.invariant.0, c.requires.set)
@@ -88,33 +84,34 @@ returns-then-similarity c =
     let a = c.args in
     let f = similarityOf a.mode a.vectors.now a.target.now in
     let cur : ResultSet = setOf c.loop-id.list c.loop-id.sims c.loop-id.len a.k c.loop-id.checked in
-    let sc : c.compute_similarity-similarity.result ≡ f c.id-1.given.0.0 = c.compute_similarity-similarity.ensures ∙ score-is a.mode a.vectors.now a.target.now c.id-1.given.0.0 _ _ (size c) c.squares-sum.ensures in
-    let n : is_nan (f c.id-1.given.0.0) ≡ true = ap is_nan (sym sc) ∙ is-nan _ c.if-similarity.true in
+    let sc : c.compute_similarity-similarity.result ≡ f c.in-At.id = c.compute_similarity-similarity.ensures ∙ score-is a.mode a.vectors.now a.target.now c.in-At.id _ _ (size (goal.at.returns-then-similarity c).In-At) c.squares-sum.ensures in
+    let n : is_nan (f c.in-At.id) ≡ true = ap is_nan (sym sc) ∙ is-nan _ c.if-similarity.true in
     c.refuse-then-similarity.ensures
-    ∙ bad-score a.marks.now a.ids.now f cur c.loop-id.at _ (got c) (sym c.vector_exists.ensures ∙ not-false _ c.if-not-vector_exists.false-raw) n
+    ∙ bad-score a.marks.now a.ids.now f cur c.loop-id.at _ (got (goal.at.returns-then-similarity c).In-At) (sym c.vector_exists.ensures ∙ c.if-not-vector_exists.false) n
     ∙ c.loop-id.invariant.4
 
 pub closed_to-requires : goal.closed_to-requires
 closed_to-requires c = omega (arith, c.loop-id.invariant.1, c.requires.k-high, c.loop-id.invariant.3.sims-long)
 
 pub loop-id-smaller-then-closed_to : goal.loop-id-smaller-then-closed_to
-loop-id-smaller-then-closed_to c = omega (arith, (got c).0, (got c).1)
+loop-id-smaller-then-closed_to c = omega (arith, (got (goal.at.loop-id-smaller-then-closed_to c).In-At).0, (got (goal.at.loop-id-smaller-then-closed_to c).In-At).1)
 
+-- a candidate that the full list is closed to: it is counted, which is what feeding it comes to, and the bar rises to it
 pub loop-id-preserved-then-closed_to : goal.loop-id-preserved-then-closed_to
 loop-id-preserved-then-closed_to c =
     let a = c.args in
     let f = similarityOf a.mode a.vectors.now a.target.now in
-    let i : ℕ = c.id-1.given.0.0 in
+    let i : ℕ = c.in-At.id in
     let cur : ResultSet = setOf c.loop-id.list c.loop-id.sims c.loop-id.len a.k c.loop-id.checked in
-    let rt : root c.squares-sum.result ≡ f i = score-is a.mode a.vectors.now a.target.now i _ _ (size c) c.squares-sum.ensures in
+    let rt : root c.squares-sum.result ≡ f i = score-is a.mode a.vectors.now a.target.now i _ _ (size (goal.at.loop-id-preserved-then-closed_to c).In-At) c.squares-sum.ensures in
     let sc : c.compute_similarity-similarity.result ≡ f i = c.compute_similarity-similarity.ensures ∙ rt in
     let n : is_nan (f i) ≡ false = ap is_nan (sym sc) ∙ no_nan _ c.if-similarity.false in
     let shut : fullAbove cur.len cur.k cur.sims c.compute_similarity-similarity.result ≡ true = sym c.closed_to.ensures ∙ c.if-closed_to.true in
     let new : counted cur ≡ fedSet cur (scored f i) = closed-counted cur (entry i c.compute_similarity-similarity.result) c.loop-id.invariant.3 shut ∙ ap (λ (x : Float). fedSet cur (entry i x)) sc in
-    let again = one-fed a.marks.now a.ids.now f cur c.loop-id.at i (got c) (sym c.vector_exists.ensures ∙ not-false _ c.if-not-vector_exists.false-raw) n in (
-      omega (arith, (got c).1),
+    let again = one-fed a.marks.now a.ids.now f cur c.loop-id.at i (got (goal.at.loop-id-preserved-then-closed_to c).In-At) (sym c.vector_exists.ensures ∙ c.if-not-vector_exists.false) n in (
+      omega (arith, (got (goal.at.loop-id-preserved-then-closed_to c).In-At).1),
       c.loop-id.invariant.1,
-      omega (arith, c.loop-id.invariant.2, (got c).0),
+      omega (arith, c.loop-id.invariant.2, (got (goal.at.loop-id-preserved-then-closed_to c).In-At).0),
       subst Sound (sym new) (sound-fed cur (scored f i) c.loop-id.invariant.3 n),
       ap (λ (t : ResultSet). ranking a.marks.now f t (idsFrom a.ids.now (i + 1))) new ∙ again ∙ c.loop-id.invariant.4,
       bar-raised cur.len cur.k cur.sims _ _ c.bits_of-bits.ensures (omega arith) (ap (fullAbove cur.len cur.k cur.sims) (sym c.compute_similarity-similarity.ensures) ∙ shut),
@@ -122,28 +119,29 @@ loop-id-preserved-then-closed_to c =
     )
 
 pub overflow_cast-id : goal.overflow_cast-id
-overflow_cast-id c = omega (arith, low c)
+overflow_cast-id c = omega (arith, low (goal.at.overflow_cast-id c).In-At)
 
 pub insert-len-requires : goal.insert-len-requires
-insert-len-requires c = ((c.loop-id.invariant.1, c.requires.k-high), (c.loop-id.invariant.3.ids-long, c.loop-id.invariant.3.sims-long))
+insert-len-requires c = record { len_le_k = (c.loop-id.invariant.1, c.requires.k-high); ids_len = (c.loop-id.invariant.3.ids-long, c.loop-id.invariant.3.sims-long) }
 
 pub loop-id-smaller-else-closed_to : goal.loop-id-smaller-else-closed_to
-loop-id-smaller-else-closed_to c = omega (arith, (got c).0, (got c).1)
+loop-id-smaller-else-closed_to c = omega (arith, (got (goal.at.loop-id-smaller-else-closed_to c).In-At).0, (got (goal.at.loop-id-smaller-else-closed_to c).In-At).1)
 
+-- a candidate that is fed: what the list was closed to, it stays closed to
 pub loop-id-preserved-else-closed_to : goal.loop-id-preserved-else-closed_to
 loop-id-preserved-else-closed_to c =
     let a = c.args in
     let f = similarityOf a.mode a.vectors.now a.target.now in
-    let i : ℕ = c.id-1.given.0.0 in
+    let i : ℕ = c.in-At.id in
     let cur : ResultSet = setOf c.loop-id.list c.loop-id.sims c.loop-id.len a.k c.loop-id.checked in
-    let rt : root c.squares-sum.result ≡ f i = score-is a.mode a.vectors.now a.target.now i _ _ (size c) c.squares-sum.ensures in
+    let rt : root c.squares-sum.result ≡ f i = score-is a.mode a.vectors.now a.target.now i _ _ (size (goal.at.loop-id-preserved-else-closed_to c).In-At) c.squares-sum.ensures in
     let sc : c.compute_similarity-similarity.result ≡ f i = c.compute_similarity-similarity.ensures ∙ rt in
     let n : is_nan (f i) ≡ false = ap is_nan (sym sc) ∙ no_nan _ c.if-similarity.false in
     let new = recount cur (entry i c.compute_similarity-similarity.result) _ _ _ c.insert-len.ensures ∙ ap (λ (x : Float). fedSet cur (entry i x)) sc in
-    let again = one-fed a.marks.now a.ids.now f cur c.loop-id.at i (got c) (sym c.vector_exists.ensures ∙ not-false _ c.if-not-vector_exists.false-raw) n in (
-      omega (arith, (got c).1),
+    let again = one-fed a.marks.now a.ids.now f cur c.loop-id.at i (got (goal.at.loop-id-preserved-else-closed_to c).In-At) (sym c.vector_exists.ensures ∙ c.if-not-vector_exists.false) n in (
+      omega (arith, (got (goal.at.loop-id-preserved-else-closed_to c).In-At).1),
       omega (arith, ap (λ (r : ResultSet). r.len) new, fed-within cur (scored f i) c.loop-id.invariant.1),
-      omega (arith, c.loop-id.invariant.2, (got c).0),
+      omega (arith, c.loop-id.invariant.2, (got (goal.at.loop-id-preserved-else-closed_to c).In-At).0),
       subst Sound (sym new) (sound-fed cur (scored f i) c.loop-id.invariant.3 n),
       ap (λ (t : ResultSet). ranking a.marks.now f t (idsFrom a.ids.now (i + 1))) new ∙ again ∙ c.loop-id.invariant.4,
       λ q l. subst (λ (t : ResultSet). fullAbove t.len t.k t.sims (of_bits binary32 (rootOf q)) ≡ true) (sym new) (closed-stays cur (scored f i) (of_bits binary32 (rootOf q)) c.loop-id.invariant.3 c.loop-id.invariant.6 n (c.loop-id.invariant.5 q l)),
@@ -151,22 +149,23 @@ loop-id-preserved-else-closed_to c =
     )
 
 pub loop-id-smaller : goal.loop-id-smaller
-loop-id-smaller c = omega (arith, (got c).0, (got c).1)
+loop-id-smaller c = omega (arith, (got (goal.at.loop-id-smaller c).In-At).0, (got (goal.at.loop-id-smaller c).In-At).1)
 
+-- a candidate below the bar: it is counted, and that is all
 pub loop-id-preserved : goal.loop-id-preserved
 loop-id-preserved c =
     let a = c.args in
     let f = similarityOf a.mode a.vectors.now a.target.now in
-    let i : ℕ = c.id-1.given.0.0 in
+    let i : ℕ = c.in-At.id in
     let cur : ResultSet = setOf c.loop-id.list c.loop-id.sims c.loop-id.len a.k c.loop-id.checked in
-    let rt : root c.squares-sum.result ≡ f i = score-is a.mode a.vectors.now a.target.now i _ _ (size c) c.squares-sum.ensures in
+    let rt : root c.squares-sum.result ≡ f i = score-is a.mode a.vectors.now a.target.now i _ _ (size (goal.at.loop-id-preserved c).In-At) c.squares-sum.ensures in
     let shut : fullAbove cur.len cur.k cur.sims (f i) ≡ true = ap (fullAbove cur.len cur.k cur.sims) (sym rt) ∙ bar-closes cur.len cur.k cur.sims c.loop-id.bar _ _ c.loop-id.invariant.5 c.bits_of-bits.ensures (omega (arith, c.if-bits-bar.false)) in
     let n : is_nan (f i) ≡ false = closed-number cur.len cur.k cur.sims (f i) shut in
     let new : counted cur ≡ fedSet cur (scored f i) = closed-counted cur (scored f i) c.loop-id.invariant.3 shut in
-    let again = one-fed a.marks.now a.ids.now f cur c.loop-id.at i (got c) (sym c.vector_exists.ensures ∙ not-false _ c.if-not-vector_exists.false-raw) n in (
-      omega (arith, (got c).1),
+    let again = one-fed a.marks.now a.ids.now f cur c.loop-id.at i (got (goal.at.loop-id-preserved c).In-At) (sym c.vector_exists.ensures ∙ c.if-not-vector_exists.false) n in (
+      omega (arith, (got (goal.at.loop-id-preserved c).In-At).1),
       c.loop-id.invariant.1,
-      omega (arith, c.loop-id.invariant.2, (got c).0),
+      omega (arith, c.loop-id.invariant.2, (got (goal.at.loop-id-preserved c).In-At).0),
       subst Sound (sym new) (sound-fed cur (scored f i) c.loop-id.invariant.3 n),
       ap (λ (t : ResultSet). ranking a.marks.now f t (idsFrom a.ids.now (i + 1))) new ∙ again ∙ c.loop-id.invariant.4,
       c.loop-id.invariant.5,
@@ -177,5 +176,5 @@ pub returns-in-Nothing : goal.returns-in-Nothing
 returns-in-Nothing c =
     let a = c.args in
     let cur : ResultSet = setOf c.loop-id.list c.loop-id.sims c.loop-id.len a.k c.loop-id.checked in
-    let g : NextIs a.ids.now c.loop-id.at Nothing = rw c.enum_told-1.given.1 at c.next.ensures in
+    let g : NextIs a.ids.now c.loop-id.at Nothing = rw c.in-Nothing.is at c.next.ensures in
     ended a.marks.now a.ids.now (similarityOf a.mode a.vectors.now a.target.now) cur c.loop-id.at g ∙ c.loop-id.invariant.4

@@ -19,7 +19,7 @@ pub component-requires : goal.component-requires
 component-requires c = within (length c.args.target.now) c.loop-i.i (compSize c.args.mode) c.args.at c.loop-i.p (length c.args.vectors.now) c.loop-i-test.true c.loop-i.invariant.1 c.requires
 
 pub overflow_add-p : goal.overflow_add-p
-overflow_add-p c = omega (arith, within (length c.args.target.now) c.loop-i.i (compSize c.args.mode) c.args.at c.loop-i.p (length c.args.vectors.now) c.loop-i-test.true c.loop-i.invariant.1 c.requires, c.component_size-size.ensures, c.well-formed)
+overflow_add-p c = omega (arith, within (length c.args.target.now) c.loop-i.i (compSize c.args.mode) c.args.at c.loop-i.p (length c.args.vectors.now) c.loop-i-test.true c.loop-i.invariant.1 c.requires, c.component_size-size.ensures)
 
 pub loop-i-preserved : goal.loop-i-preserved
 loop-i-preserved c =

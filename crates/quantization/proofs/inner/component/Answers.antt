@@ -1,5 +1,3 @@
--- a component from the word that is read for it
-use borrow.Author.Rules.{rules}
 use mathlib.Core.Path.{◌≡◌, sym, ap, ◌∙◌}
 use Prim.Native.Nat.{ℕ}
 use mathlib.Core.List.{List}
@@ -11,6 +9,7 @@ use Rattle.quantization.specs.Stored.{decoded, componentAt}
 use Rattle.quantization.proofs.Stored.{comp-four, comp-two, decoded-four, decoded-two}
 use Rattle.quantization.proofs.inner.component.Goals as goal
 
+-- a component from the word that is read for it
 at-four : (mode at n : ℕ) (s : List ℕ) → mode ≡ 0 → n ≡ leWord s at 4 → of_bits binary32 n ≡ componentAt mode s at
 unfolding componentAt
 at-four mode at n s e h = sym (decoded-four mode n e) ∙ ap (decoded mode) (h ∙ ap (leWord s at) (sym (comp-four mode e)))

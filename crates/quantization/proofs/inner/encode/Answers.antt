@@ -1,4 +1,3 @@
-use borrow.Author.Rules.{rules}
 use mathlib.Core.Path.{sym, ap, ◌∙◌}
 use Rattle.quantization.specs.Bf16.{lowered}
 use Rattle.quantization.proofs.Stored.{encoded-four, encoded-two}

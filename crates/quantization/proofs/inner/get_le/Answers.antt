@@ -1,9 +1,6 @@
--- r is the number of the bytes from j on
 use mathlib.Core.Path.{◌≡◌}
-use Prim.Native.Nat.{suc, ◌+◌, ◌-◌, ◌^◌, ◌<◌, ◌≤◌}
-use borrow.Author.Rules.{rules}
+use Prim.Native.Nat.{suc, ◌+◌, ◌-◌}
 use native.Mathlib.Omega.{arith}
-use Rattle.quantization.specs.Bytes.{leWord}
 use Rattle.quantization.proofs.Bytes.{word_none, word-step, word_fits, seven, pow-some}
 use Rattle.quantization.proofs.inner.get_le.Goals as goal
 

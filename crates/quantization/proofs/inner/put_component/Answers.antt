@@ -1,4 +1,3 @@
-use borrow.Author.Rules.{rules}
 use Rattle.quantization.specs.Stored.{compBytes}
 use Rattle.quantization.proofs.inner.put_component.Goals as goal
 

@@ -1,12 +1,7 @@
--- storing the bytes that are left gives what storing all of them gave
 use mathlib.Core.Path.{refl, sym, ◌∙◌}
-use Prim.Native.Nat.{◌+◌, ◌-◌, ◌%◌, ◌≤◌}
-use borrow.Author.Rules.{rules}
+use Prim.Native.Nat.{◌+◌, ◌%◌}
 use native.Mathlib.Omega.{arith}
-use mathlib.Core.Path.{◌≡◌}
-use lib.ListN.{length, length-set}
-use lib.Seq.{sets}
-use Rattle.quantization.specs.Bytes.{le_bytes}
+use lib.ListN.{length-set}
 use Rattle.quantization.proofs.Bytes.{put-start, put_step, put-end}
 use Rattle.quantization.proofs.inner.put_le.Goals as goal
 

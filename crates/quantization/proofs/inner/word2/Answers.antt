@@ -1,4 +1,3 @@
-use borrow.Author.Rules.{rules}
 use native.Mathlib.Omega.{arith}
 use Rattle.quantization.proofs.Bytes.{word_two}
 use Rattle.quantization.proofs.inner.word2.Goals as goal

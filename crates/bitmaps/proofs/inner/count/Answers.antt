@@ -13,13 +13,13 @@ use Rattle.bitmaps.proofs.inner.count.Goals as goal
 pub overflow_add-n : goal.overflow_add-n
 overflow_add-n c =
     let i = c.loop-word.word in
-    omega (arith, ones-le 64 _ (c.shared_slice_known-1.given i).fits)
+    omega (arith, ones-le 64 _ (c.type_inv.a i).fits)
 
 pub loop-word-preserved : goal.loop-word-preserved
 loop-word-preserved c =
     let i = c.loop-word.word in
     let a = c.args.a.now in
-    let few = ones-le 64 _ (c.shared_slice_known-1.given i).fits in
+    let few = ones-le 64 _ (c.type_inv.a i).fits in
     let next = size-drop a i c.loop-word-test.true in
     (omega arith, omega arith, omega arith)
 

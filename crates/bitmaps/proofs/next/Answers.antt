@@ -1,5 +1,4 @@
 -- `next` meets its contract: refused, or answered by `inner::next`. Assumes nothing.
-use borrow.Author.Rules.{rules}
 use mathlib.Core.Path.{sym, ◌∙◌}
 use Rattle.bitmaps.specs.declared.Found.TheVariants.{At, Nothing}
 use Rattle.bitmaps.proofs.Ids.{next-first}

@@ -1,8 +1,6 @@
 -- `inner::count` meets its contract: what is counted, and the size of what is left, make the size. Assumes nothing.
-use Prim.Native.Nat.{◌+◌, ◌*◌, ◌≤◌, ◌-◌}
 use mathlib.Core.Path.{◌≡◌}
 use native.Mathlib.Omega.{arith}
-use borrow.Author.Rules.{rules}
 use lib.ListN.{length, drop}
 use lib.Seq.{drop-length}
 use lib.Count.{ones-le}

@@ -1,11 +1,10 @@
 -- `inner::next` meets its contract: no id stands between `from` and word q. Assumes nothing.
-use Prim.Native.Nat.{ℕ, ◌≤◌, ◌<◌, ◌-◌, ◌*◌, ◌/◌, ◌%◌, ◌^◌}
+use Prim.Native.Nat.{◌≤◌, ◌<◌, ◌*◌, ◌/◌, ◌%◌, ◌^◌}
 use mathlib.Core.Path.{◌≡◌, refl}
 use native.Mathlib.Omega.{arith}
 use borrow.Author.Rules.{rules}
-use lib.ListN.{length, get_or}
+use lib.ListN.{get_or}
 use mathlib.Core.Logic.{⊎_elim}
-use Rattle.bitmaps.specs.Words.{has}
 use Rattle.bitmaps.proofs.Digits.{Words}
 use Rattle.bitmaps.proofs.Rising.{le-or-lt, inside, found, before, bare, past_end}
 use Rattle.bitmaps.proofs.inner.next.Goals as goal

@@ -13,10 +13,8 @@ use Rattle.bitmaps.specs.Words.{size, is_empty, shared}
 use Rattle.bitmaps.proofs.Digits.{byWord-at}
 use Rattle.bitmaps.proofs.Zip.{byWordTo, byWordTo-at, byWordTo-suc, byWordTo-all, byWord-length, byWord-flip}
 use Rattle.counting_bitmap.proofs.Stop.{any-more}
+use Rattle.counting_bitmap.proofs.inner.carry.Invariants.{flipped}
 use Rattle.counting_bitmap.proofs.inner.carry.Goals as goal
-
-abbrev flipped : ℕ → ℕ → ℕ
-flipped x y = bit_and y x
 
 pub loop-i-init : goal.loop-i-init
 unfolding byWordTo size

@@ -14,6 +14,10 @@ use Rattle.bitmaps.proofs.Zip.{byWordTo, byWordTo-at, byWordTo-suc, byWordTo-all
 use Rattle.counting_bitmap.proofs.Stop.{any-more}
 use Rattle.counting_bitmap.proofs.inner.carry.Given as goal
 
+-- what stays of a set's word where a layer's word takes it
+abbrev pub flipped : ℕ → ℕ → ℕ
+flipped x y = bit_and y x
+
 abbrev pub invariant-loop-i : goal.invariant-loop-i
 invariant-loop-i l =
     (l.i ≤ length l.initial.layer) × (length l.layer ≡ length l.initial.layer) × (length l.cur ≡ length l.initial.cur)

@@ -25,7 +25,7 @@ returns-then-search_k-count c =
     let l = c.loop-i in
     let args = c.args in
     sym (l.invariant.3
-    ∙ top-hit l.i args.w l.at args.layers.now args.search-k c.count.result c.loop-i-test.true l.invariant.1 c.count.ensures c.if-search_k-count.true)
+    ∙ top-hit l.i args.w l.at args.layers.now args.search_k c.count.result c.loop-i-test.true l.invariant.1 c.count.ensures c.if-search_k-count.true)
 
 pub loop-i-preserved : goal.loop-i-preserved
 loop-i-preserved c =
@@ -35,7 +35,7 @@ loop-i-preserved c =
       omega (arith, less_one l.i args.w c.loop-i-test.true),
       omega arith,
       l.invariant.3
-          ∙ top-miss l.i args.w l.at args.layers.now args.search-k c.count.result c.loop-i-test.true l.invariant.1 c.count.ensures c.if-search_k-count.false,
+          ∙ top-miss l.i args.w l.at args.layers.now args.search_k c.count.result c.loop-i-test.true l.invariant.1 c.count.ensures c.if-search_k-count.false,
     )
 
 pub returns : goal.returns

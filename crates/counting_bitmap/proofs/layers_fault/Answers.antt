@@ -1,11 +1,10 @@
 -- `layers_fault` meets its contract. Assumes nothing.
-use borrow.Author.Rules.{rules}
 use Prim.Native.Nat.{◌/◌}
 use native.Mathlib.Nat.{mul-le-mul_right}
 use native.Mathlib.Omega.{arith}
 use mathlib.Core.Path.{◌≡◌, sym, ◌∙◌}
 use mathlib.Core.Bool.{true, false}
-use borrow.Author.Tests.{not-true, not-false, eq-eqb, ne_eqb}
+use borrow.Author.Tests.{eq-eqb, ne_eqb}
 use Rattle.counting_bitmap.specs.Answers.{layersOk, layersFault}
 use Rattle.counting_bitmap.proofs.Checks.{shape-facts}
 use Rattle.counting_bitmap.proofs.layers_fault.Goals as goal

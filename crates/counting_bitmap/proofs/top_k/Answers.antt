@@ -1,5 +1,4 @@
 -- `top_k` meets its contract: refused, or answered by `inner::top_part`. Assumes nothing.
-use borrow.Author.Rules.{rules}
 use mathlib.Core.Path.{sym, ◌∙◌}
 use Rattle.counting_bitmap.proofs.Checks.{layers-accepted, part-refused, part-done}
 use Rattle.counting_bitmap.proofs.top_k.Goals as goal

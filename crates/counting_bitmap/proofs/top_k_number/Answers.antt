@@ -1,5 +1,4 @@
 -- `top_k_number` meets its contract: refused, or answered by `inner::top_layer`. Assumes nothing.
-use borrow.Author.Rules.{rules}
 use mathlib.Core.Path.{sym, ◌∙◌}
 use Rattle.counting_bitmap.proofs.Checks.{layers-accepted, chosen-refused, chosen-layer, chosen_none}
 use Rattle.counting_bitmap.proofs.top_k_number.Goals as goal

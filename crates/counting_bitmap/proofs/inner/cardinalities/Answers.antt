@@ -1,13 +1,12 @@
 -- `inner::cardinalities` meets its contract: the first i layers are counted. Assumes nothing.
 -- the next layer is within the layers
 use borrow.Author.Rules.{rules}
-use Prim.Native.Nat.{◌≤◌, ◌-◌, ◌*◌, ◌+◌}
+use Prim.Native.Nat.{◌≤◌, ◌*◌, ◌+◌}
 use mathlib.Core.Path.{◌≡◌, refl, ◌∙◌}
-use mathlib.Core.List.{◌++◌}
 use native.Mathlib.Nat.{mul-le-mul_right}
 use native.Mathlib.Omega.{arith}
-use lib.ListN.{length, length-take, length-set}
-use Rattle.counting_bitmap.specs.Layers.{countsOf, empty}
+use lib.ListN.{length-take, length-set}
+use Rattle.counting_bitmap.specs.Layers.{countsOf}
 use Rattle.counting_bitmap.proofs.Places.{counts-turn}
 use Rattle.counting_bitmap.proofs.inner.cardinalities.Goals as goal
 use Rattle.counting_bitmap.proofs.inner.cardinalities.Goals.{In-loop-i}

@@ -1,8 +1,7 @@
 -- `layers_ok` meets its contract. Assumes nothing.
-use borrow.Author.Rules.{rules}
 use mathlib.Core.Path.{◌≡◌, sym, ◌∙◌}
 use mathlib.Core.Bool.{true, false}
-use borrow.Author.Tests.{not-true, not-false, le-leb, lt-leb}
+use borrow.Author.Tests.{le-leb, lt-leb}
 use Rattle.paper.specs.Geometry.{capOk}
 use Rattle.counting_bitmap.specs.Answers.{layersOk}
 use Rattle.counting_bitmap.proofs.inner.layers_ok.Goals as goal

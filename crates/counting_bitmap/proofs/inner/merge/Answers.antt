@@ -7,7 +7,7 @@ use mathlib.Core.Bool.{true}
 use mathlib.Core.List.{[]}
 use native.Mathlib.Nat.{mul-le-mul_right}
 use native.Mathlib.Omega.{arith}
-use borrow.Author.Tests.{eqb-true, not-true, not-false}
+use borrow.Author.Tests.{eqb-true, not-false}
 use lib.ListN.{length, take, drop}
 use Rattle.bitmaps.specs.Words.{size, shared, is_empty}
 use Rattle.counting_bitmap.specs.Layers.{merged, fallen}

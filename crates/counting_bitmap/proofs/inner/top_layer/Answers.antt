@@ -1,9 +1,8 @@
 -- `inner::top_layer` meets its contract: the answer lies below layer i. Assumes nothing.
 use borrow.Author.Rules.{rules}
-use Prim.Native.Nat.{◌≤◌, ◌*◌}
 use mathlib.Core.Path.{◌≡◌, refl, sym, ◌∙◌}
 use native.Mathlib.Omega.{arith}
-use lib.ListN.{length, length-take}
+use lib.ListN.{length-take}
 use Rattle.counting_bitmap.specs.TopLayer.{top_of}
 use Rattle.counting_bitmap.proofs.Highest.{less_one, top-hit, top-miss}
 use Rattle.counting_bitmap.proofs.inner.top_layer.Goals as goal

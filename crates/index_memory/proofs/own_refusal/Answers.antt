@@ -1,7 +1,5 @@
 -- `index_memory::own_refusal` meets its contract. Assumes nothing.
 use mathlib.Core.Path.{sym, ◌∙◌}
-use borrow.Author.Rules.{rules}
-use borrow.Author.Tests.{not-true, not-false}
 use Rattle.paper.proofs.Geometry.{geo-facts}
 use Rattle.index_memory.specs.Memory.{ownRefusal}
 use Rattle.index_memory.proofs.own_refusal.Goals as goal

@@ -1,10 +1,9 @@
 -- `index_memory::inner::clear_bytes` meets its contract. Assumes nothing.
-use Prim.Native.Nat.{ℕ, ◌+◌, ◌-◌, ◌≤◌, ◌<◌}
+use Prim.Native.Nat.{ℕ, ◌<◌}
 use mathlib.Core.Path.{◌≡◌, ◌∙◌, refl}
-use mathlib.Core.List.{◌++◌}
 use borrow.Author.Rules.{rules}
 use native.Mathlib.Omega.{arith}
-use lib.ListN.{length, replicate, drop, length-set}
+use lib.ListN.{length, length-set}
 use Rattle.index_memory.proofs.Fill.{fill_more, fill_none, fill-all}
 use Rattle.index_memory.proofs.inner.clear_bytes.Goals as goal
 

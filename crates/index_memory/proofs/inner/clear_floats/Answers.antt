@@ -1,10 +1,9 @@
 -- `index_memory::inner::clear_floats` meets its contract. Assumes nothing.
-use Prim.Native.Nat.{◌+◌, ◌-◌, ◌≤◌, ◌<◌}
+use Prim.Native.Nat.{◌<◌}
 use mathlib.Core.Path.{◌≡◌, ◌∙◌, refl}
-use mathlib.Core.List.{◌++◌}
 use borrow.Author.Rules.{rules}
 use native.Mathlib.Omega.{arith}
-use lib.ListN.{length, replicate, drop, length-set}
+use lib.ListN.{length, length-set}
 use lib.Ieee.{binary32, of_bits}
 use Rattle.index_memory.proofs.Fill.{fill_more, fill_none, fill-all}
 use Rattle.index_memory.proofs.inner.clear_floats.Goals as goal

@@ -12,13 +12,9 @@ use Rattle.paper.proofs.Choice.{refuse-ok, refuse-rest}
 use Rattle.paper.proofs.Geometry.{cap-facts}
 use Rattle.bitmaps.specs.Answers.{setFault, pairFault, idFault, unlessRefused, Changed, AskedIs, CountedIs, steppedTo, walkedRefusal, walkedValue, WalkedIs}
 use Rattle.bitmaps.specs.declared.Found.{Found}
-use Rattle.bitmaps.specs.declared.Found.TheVariants as Found
 use Rattle.bitmaps.specs.declared.Asked.{Asked}
-use Rattle.bitmaps.specs.declared.Asked.TheVariants as Asked
 use Rattle.bitmaps.specs.declared.Counted.{Counted}
-use Rattle.bitmaps.specs.declared.Counted.TheVariants as Counted
 use Rattle.bitmaps.specs.declared.Walked.{Walked}
-use Rattle.bitmaps.specs.declared.Walked.TheVariants as Walked
 
 -- ---- what the tests found
 

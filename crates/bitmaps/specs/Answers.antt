@@ -3,13 +3,9 @@ use Rattle.std.specs.Prelude.{ℕ, zero, suc, Bool, false, ◌≡◌, List, eqb,
 use Rattle.paper.specs.Choice.{refuse}
 use Rattle.paper.specs.Geometry.{capOk, setWords}
 use Rattle.bitmaps.specs.declared.Found.{Found}
-use Rattle.bitmaps.specs.declared.Found.TheVariants as Found
 use Rattle.bitmaps.specs.declared.Asked.{Asked}
-use Rattle.bitmaps.specs.declared.Asked.TheVariants as Asked
 use Rattle.bitmaps.specs.declared.Counted.{Counted}
-use Rattle.bitmaps.specs.declared.Counted.TheVariants as Counted
 use Rattle.bitmaps.specs.declared.Walked.{Walked}
-use Rattle.bitmaps.specs.declared.Walked.TheVariants as Walked
 
 -- ---- which refusal is given: 1 for the capacity, then 2 for a length, then 3 for an id; 0 for none
 

@@ -1,4 +1,6 @@
 // Sets of ids in lent words: id i is bit i % 64 of word i / 64. A set of capacity `cap` has cap / 64 words.
+#![tactic(auto)]
+
 ghost use Rattle.std.specs.Prelude.{◌≡◌, length};
 ghost use Rattle.bitmaps.specs.Words.{union, exclusive, without, inserted, size, holds, is_empty, empty};
 ghost use Rattle.bitmaps.specs.Walk.{idsFrom, first_of};

@@ -1,5 +1,7 @@
 // The calls for C and Rust on counting layers and result sets by themselves. Each checks the length of what it writes its answer into, and is otherwise
 // the public function that its comment names; none asks anything of its caller but that what is lent is there.
+#![tactic(auto)]
+
 ghost use Rattle.std.specs.Prelude.{◌≡◌};
 ghost use Rattle.capi_vectors.specs.Single.{single};
 ghost use Rattle.capi_sets.specs.Layers.{countedIn, orInto, topInto};

@@ -1,4 +1,6 @@
 // What an index is: the tests of geometry and lengths that its calls make before anything else, and making it empty (vector_store.rs's new).
+#![tactic(auto)]
+
 ghost use Rattle.std.specs.Prelude.{◌≡◌};
 ghost use Rattle.paper.specs.Geometry.{geo};
 ghost use Rattle.index_memory.specs.Memory.{ixOf, ownRefusal, done, emptyOf};

@@ -1,5 +1,4 @@
 -- `add` meets its contract: refused, or done by `inner::add`. Assumes nothing.
-use borrow.Author.Rules.{rules}
 use mathlib.Core.Path.{sym, ◌∙◌}
 use Rattle.bitmaps.proofs.Checks.{changed-refused, changed-done, id-accepted}
 use Rattle.bitmaps.proofs.add.Goals as goal

@@ -1,5 +1,4 @@
 -- `and_not` meets its contract: refused, or done by `inner::and_not`. Assumes nothing.
-use borrow.Author.Rules.{rules}
 use mathlib.Core.Path.{sym, ◌∙◌}
 use Rattle.bitmaps.proofs.Checks.{changed-refused, changed-done, pair-accepted}
 use Rattle.bitmaps.proofs.and_not.Goals as goal

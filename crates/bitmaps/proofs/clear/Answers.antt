@@ -1,5 +1,4 @@
 -- `clear` meets its contract: refused, or done by `inner::clear`. Assumes nothing.
-use borrow.Author.Rules.{rules}
 use mathlib.Core.Path.{sym, ◌∙◌}
 use Rattle.bitmaps.proofs.Checks.{changed-refused, changed-done}
 use Rattle.bitmaps.proofs.clear.Goals as goal

@@ -1,5 +1,4 @@
 -- `contains` meets its contract: refused, or answered by `inner::contains`. Assumes nothing.
-use borrow.Author.Rules.{rules}
 use mathlib.Core.Path.{sym, ◌∙◌}
 use Rattle.bitmaps.proofs.Checks.{asked-refused, asked-done, id-accepted}
 use Rattle.bitmaps.proofs.contains.Goals as goal

@@ -1,5 +1,4 @@
 -- `count` meets its contract: refused, or answered by `inner::count`. Assumes nothing.
-use borrow.Author.Rules.{rules}
 use mathlib.Core.Path.{sym, ◌∙◌}
 use Rattle.bitmaps.proofs.Checks.{counted-refused, counted-done, set-accepted}
 use Rattle.bitmaps.proofs.count.Goals as goal

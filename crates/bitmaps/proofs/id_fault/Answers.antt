@@ -1,5 +1,4 @@
 -- `id_fault` meets its contract: the faults of one set come first. Assumes nothing.
-use borrow.Author.Rules.{rules}
 use borrow.Author.Tests.{lt-ltb, le-ltb}
 use Rattle.bitmaps.proofs.Checks.{id-first, id-then}
 use Rattle.bitmaps.proofs.id_fault.Goals as goal

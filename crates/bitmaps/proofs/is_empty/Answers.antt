@@ -1,5 +1,4 @@
 -- `is_empty` meets its contract: refused, or answered by `inner::is_empty`. Assumes nothing.
-use borrow.Author.Rules.{rules}
 use mathlib.Core.Path.{sym, ◌∙◌}
 use Rattle.bitmaps.proofs.Checks.{asked-refused, asked-done}
 use Rattle.bitmaps.proofs.is_empty.Goals as goal

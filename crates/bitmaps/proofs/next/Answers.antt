@@ -1,5 +1,4 @@
 -- `next` meets its contract: refused, or answered by `inner::next`. Assumes nothing.
-use borrow.Author.Rules.{rules}
 use mathlib.Core.Path.{sym, ◌∙◌}
 use Rattle.bitmaps.specs.declared.Found.TheVariants.{At, Nothing}
 use Rattle.bitmaps.proofs.Ids.{next-first}
@@ -14,10 +13,10 @@ next-requires c = (set-accepted _ _ (sym c.set_fault-f.ensures ∙ c.if-f-ne0.fa
 
 pub returns-in-At : goal.returns-in-At
 returns-in-At c =
-    walked-done _ _ (At c.i-1.given.0.0) (sym c.set_fault-f.ensures ∙ c.if-f-ne0.false)
-    (sym c.i-1.given.1 ∙ next-first c.args.set.now c.args.from _ c.next.ensures)
+    walked-done _ _ (At c.in-At.i) (sym c.set_fault-f.ensures ∙ c.if-f-ne0.false)
+    (sym c.in-At.is ∙ next-first c.args.set.now c.args.from _ c.next.ensures)
 
 pub returns-in-Nothing : goal.returns-in-Nothing
 returns-in-Nothing c =
     walked-done _ _ Nothing (sym c.set_fault-f.ensures ∙ c.if-f-ne0.false)
-    (sym c.enum_told-1.given.1 ∙ next-first c.args.set.now c.args.from _ c.next.ensures)
+    (sym c.in-Nothing.is ∙ next-first c.args.set.now c.args.from _ c.next.ensures)

@@ -1,5 +1,4 @@
 -- `or` meets its contract: refused, or done by `inner::or`. Assumes nothing.
-use borrow.Author.Rules.{rules}
 use mathlib.Core.Path.{sym, ◌∙◌}
 use Rattle.bitmaps.proofs.Checks.{changed-refused, changed-done, pair-accepted}
 use Rattle.bitmaps.proofs.or.Goals as goal

@@ -1,5 +1,4 @@
 -- `pair_fault` meets its contract: the faults of one set come first. Assumes nothing.
-use borrow.Author.Rules.{rules}
 use borrow.Author.Tests.{eq-eqb, ne_eqb}
 use Rattle.bitmaps.proofs.Checks.{pair-first, pair_then}
 use Rattle.bitmaps.proofs.pair_fault.Goals as goal

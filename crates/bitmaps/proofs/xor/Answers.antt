@@ -1,5 +1,4 @@
 -- `xor` meets its contract: refused, or done by `inner::xor`. Assumes nothing.
-use borrow.Author.Rules.{rules}
 use mathlib.Core.Path.{sym, ◌∙◌}
 use Rattle.bitmaps.proofs.Checks.{changed-refused, changed-done, pair-accepted}
 use Rattle.bitmaps.proofs.xor.Goals as goal

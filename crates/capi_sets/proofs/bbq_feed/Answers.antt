@@ -10,35 +10,23 @@ use Rattle.capi_sets.proofs.bbq_feed.Goals as goal
 pub returns-then-ids-scores : goal.returns-then-ids-scores
 returns-then-ids-scores c =
     let a = c.args in
-    let o = outs a.out-ids.now a.out-scores.now a.told.now in
+    let o = outs a.out_ids.now a.out_scores.now a.told.now in
     feed-unequal a.k a.ids.now a.scores.now o c.if-ids-scores.true
-
-pub room_ok-requires : goal.room_ok-requires
-room_ok-requires c = tt
 
 pub returns-then-not-room_ok : goal.returns-then-not-room_ok
 returns-then-not-room_ok c =
     let a = c.args in
-    let o = outs a.out-ids.now a.out-scores.now a.told.now in
-    feed-room a.k a.ids.now a.scores.now o c.if-ids-scores.false (sym c.room_ok.ensures ∙ not-true _ c.if-not-room_ok.true-raw)
+    let o = outs a.out_ids.now a.out_scores.now a.told.now in
+    feed-room a.k a.ids.now a.scores.now o c.if-ids-scores.false (sym c.room_ok.ensures ∙ c.if-not-room_ok.true)
 
 pub put_fed-requires : goal.put_fed-requires
 put_fed-requires c =
     let a = c.args in
-    let r = room _ _ _ _ _ (sym c.room_ok.ensures ∙ not-false _ c.if-not-room_ok.false-raw) in
+    let r = room _ _ _ _ _ (sym c.room_ok.ensures ∙ c.if-not-room_ok.false) in
     (feed-fits a.k a.ids.now a.scores.now _ _ _ c.feed_new-fed.ensures r.ids r.scores, r.told)
-
-pub shape_of-out_ids : goal.shape_of-out_ids
-shape_of-out_ids c = c.put_fed.auto.scores
-
-pub shape_of-out_scores : goal.shape_of-out_scores
-shape_of-out_scores c = c.put_fed.auto.told
-
-pub shape_of-told : goal.shape_of-told
-shape_of-told c = c.put_fed.auto.1.1.1.0
 
 pub returns : goal.returns
 returns c =
     let a = c.args in
-    let o = outs a.out-ids.now a.out-scores.now a.told.now in
-    feed-into a.k a.ids.now a.scores.now o _ _ c.if-ids-scores.false (sym c.room_ok.ensures ∙ not-false _ c.if-not-room_ok.false-raw) c.feed_new-fed.ensures c.put_fed.ensures
+    let o = outs a.out_ids.now a.out_scores.now a.told.now in
+    feed-into a.k a.ids.now a.scores.now o _ _ c.if-ids-scores.false (sym c.room_ok.ensures ∙ c.if-not-room_ok.false) c.feed_new-fed.ensures c.put_fed.ensures

@@ -1,5 +1,4 @@
 -- `cardinalities` meets its contract: refused, or counted by `inner::cardinalities`. Assumes nothing.
-use borrow.Author.Rules.{rules}
 use mathlib.Core.Path.{refl, sym, ◌∙◌}
 use Rattle.counting_bitmap.proofs.Checks.{layers-accepted, counts-refused, counts-done}
 use Rattle.counting_bitmap.proofs.cardinalities.Goals as goal

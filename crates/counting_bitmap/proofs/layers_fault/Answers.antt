@@ -1,11 +1,10 @@
 -- `layers_fault` meets its contract. Assumes nothing.
-use borrow.Author.Rules.{rules}
 use Prim.Native.Nat.{◌/◌}
 use native.Mathlib.Nat.{mul-le-mul_right}
 use native.Mathlib.Omega.{arith}
 use mathlib.Core.Path.{◌≡◌, sym, ◌∙◌}
 use mathlib.Core.Bool.{true, false}
-use borrow.Author.Tests.{not-true, not-false, eq-eqb, ne_eqb}
+use borrow.Author.Tests.{eq-eqb, ne_eqb}
 use Rattle.counting_bitmap.specs.Answers.{layersOk, layersFault}
 use Rattle.counting_bitmap.proofs.Checks.{shape-facts}
 use Rattle.counting_bitmap.proofs.layers_fault.Goals as goal
@@ -13,23 +12,23 @@ use Rattle.counting_bitmap.proofs.layers_fault.Goals as goal
 pub returns-then-not-layers_ok : goal.returns-then-not-layers_ok
 unfolding layersFault
 returns-then-not-layers_ok c =
-    let bad : layersOk c.args.cap c.args.n ≡ false = sym c.layers_ok.ensures ∙ not-true _ c.if-not-layers_ok.true-raw in
+    let bad : layersOk c.args.cap c.args.n ≡ false = sym c.layers_ok.ensures ∙ c.if-not-layers_ok.true in
     rw bad
 
 pub overflow_mul-n : goal.overflow_mul-n
 overflow_mul-n c =
-    let s = shape-facts c.args.cap c.args.n (sym c.layers_ok.ensures ∙ not-false _ c.if-not-layers_ok.false-raw) in
+    let s = shape-facts c.args.cap c.args.n (sym c.layers_ok.ensures ∙ c.if-not-layers_ok.false) in
     let few = mul-le-mul_right (c.args.cap / 64) s.few in
     omega arith
 
 pub returns-then-words-n : goal.returns-then-words-n
 unfolding layersFault
 returns-then-words-n c =
-    let good : layersOk c.args.cap c.args.n ≡ true = sym c.layers_ok.ensures ∙ not-false _ c.if-not-layers_ok.false-raw in
+    let good : layersOk c.args.cap c.args.n ≡ true = sym c.layers_ok.ensures ∙ c.if-not-layers_ok.false in
     rw (good, ne_eqb _ _ c.if-words-n.true)
 
 pub returns : goal.returns
 unfolding layersFault
 returns c =
-    let good : layersOk c.args.cap c.args.n ≡ true = sym c.layers_ok.ensures ∙ not-false _ c.if-not-layers_ok.false-raw in
+    let good : layersOk c.args.cap c.args.n ≡ true = sym c.layers_ok.ensures ∙ c.if-not-layers_ok.false in
     rw (good, eq-eqb _ _ c.if-words-n.false)

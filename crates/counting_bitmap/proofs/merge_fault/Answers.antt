@@ -1,5 +1,4 @@
 -- `merge_fault` meets its contract: the faults of the layers come first. Assumes nothing.
-use borrow.Author.Rules.{rules}
 use borrow.Author.Tests.{eq-eqb, ne_eqb}
 use Rattle.counting_bitmap.proofs.Checks.{merge-first, merge-then}
 use Rattle.counting_bitmap.proofs.merge_fault.Goals as goal

@@ -1,5 +1,4 @@
 -- `or` meets its contract: refused, or done by `inner::merge`. Assumes nothing.
-use borrow.Author.Rules.{rules}
 use native.Mathlib.Omega.{arith}
 use mathlib.Core.Path.{sym, ap, ◌∙◌}
 use lib.ListN.{length}

@@ -1,5 +1,4 @@
 -- `top_k_number` meets its contract: refused, or answered by `inner::top_layer`. Assumes nothing.
-use borrow.Author.Rules.{rules}
 use mathlib.Core.Path.{sym, ◌∙◌}
 use Rattle.counting_bitmap.proofs.Checks.{layers-accepted, chosen-refused, chosen-layer, chosen_none}
 use Rattle.counting_bitmap.proofs.top_k_number.Goals as goal
@@ -13,7 +12,7 @@ top_layer-requires c =
     (ok.long, ok.shape.narrow)
 
 pub returns-in-Layer : goal.returns-in-Layer
-returns-in-Layer c = chosen-layer _ _ _ (sym c.layers_fault-f.ensures ∙ c.if-f-ne0.false) (sym c.top_layer.ensures ∙ c.i-1.given.1)
+returns-in-Layer c = chosen-layer _ _ _ (sym c.layers_fault-f.ensures ∙ c.if-f-ne0.false) (sym c.top_layer.ensures ∙ c.in-Layer.is)
 
 pub returns-in-Nothing : goal.returns-in-Nothing
-returns-in-Nothing c = chosen_none _ _ (sym c.layers_fault-f.ensures ∙ c.if-f-ne0.false) (sym c.top_layer.ensures ∙ c.enum_told-1.given.1)
+returns-in-Nothing c = chosen_none _ _ (sym c.layers_fault-f.ensures ∙ c.if-f-ne0.false) (sym c.top_layer.ensures ∙ c.in-Nothing.is)

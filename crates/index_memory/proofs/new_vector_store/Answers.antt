@@ -3,7 +3,6 @@ use mathlib.Core.Path.{◌∙◌, sym}
 use Rattle.paper.specs.Geometry.{geo}
 use Rattle.index_memory.specs.Memory.{ixOf}
 use Rattle.index_memory.proofs.Lengths.{own-none, empty-is, empty-refused, empty-done}
-use borrow.Author.Rules.{rules}
 use Rattle.index_memory.proofs.new_vector_store.Goals as goal
 
 pub returns-then-r-ne0 : goal.returns-then-r-ne0

@@ -1,26 +1,24 @@
 -- `index_memory::own_refusal` meets its contract. Assumes nothing.
 use mathlib.Core.Path.{sym, ◌∙◌}
-use borrow.Author.Rules.{rules}
-use borrow.Author.Tests.{not-true, not-false}
 use Rattle.paper.proofs.Geometry.{geo-facts}
 use Rattle.index_memory.specs.Memory.{ownRefusal}
 use Rattle.index_memory.proofs.own_refusal.Goals as goal
 
 pub returns-then-not-geometry_ok : goal.returns-then-not-geometry_ok
 unfolding ownRefusal
-returns-then-not-geometry_ok c = simp (sym c.geometry_ok.ensures ∙ not-true _ c.if-not-geometry_ok.true-raw)
+returns-then-not-geometry_ok c = simp (sym c.geometry_ok.ensures ∙ c.if-not-geometry_ok.true)
 
 pub own_lengths_ok-requires : goal.own_lengths_ok-requires
 own_lengths_ok-requires c =
-    let f = geo-facts _ _ _ _ (sym c.geometry_ok.ensures ∙ not-false _ c.if-not-geometry_ok.false-raw) in
+    let f = geo-facts _ _ _ _ (sym c.geometry_ok.ensures ∙ c.if-not-geometry_ok.false) in
     (f.d-high, f.n-high, f.cap-high)
 
 pub returns-then-not-own_lengths_ok : goal.returns-then-not-own_lengths_ok
 unfolding ownRefusal
 returns-then-not-own_lengths_ok c =
-    simp (sym c.geometry_ok.ensures ∙ not-false _ c.if-not-geometry_ok.false-raw, sym c.own_lengths_ok.ensures ∙ not-true _ c.if-not-own_lengths_ok.true-raw)
+    simp (sym c.geometry_ok.ensures ∙ c.if-not-geometry_ok.false, sym c.own_lengths_ok.ensures ∙ c.if-not-own_lengths_ok.true)
 
 pub returns : goal.returns
 unfolding ownRefusal
 returns c =
-    simp (sym c.geometry_ok.ensures ∙ not-false _ c.if-not-geometry_ok.false-raw, sym c.own_lengths_ok.ensures ∙ not-false _ c.if-not-own_lengths_ok.false-raw)
+    simp (sym c.geometry_ok.ensures ∙ c.if-not-geometry_ok.false, sym c.own_lengths_ok.ensures ∙ c.if-not-own_lengths_ok.false)

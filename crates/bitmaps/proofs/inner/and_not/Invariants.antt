@@ -1,10 +1,8 @@
 use Prim.Native.Nat.{◌≤◌, ◌-◌}
-use mathlib.Core.Path.{◌≡◌, refl, ◌∙◌}
-use native.Mathlib.Omega.{arith}
-use borrow.Author.Rules.{rules}
-use lib.ListN.{length, length-set}
+use mathlib.Core.Path.{◌≡◌}
+use lib.ListN.{length}
 use Rattle.bitmaps.specs.Words.{wordBut}
-use Rattle.bitmaps.proofs.Zip.{byWordTo, byWordTo-more, byWordTo-all}
+use Rattle.bitmaps.proofs.Zip.{byWordTo}
 use Rattle.bitmaps.proofs.inner.and_not.Given as goal
 
 abbrev pub invariant-loop-i : goal.invariant-loop-i

@@ -1,11 +1,10 @@
 -- `inner::clear` meets its contract: the first i words are 0. Assumes nothing.
 use borrow.Author.Rules.{rules}
 use borrow.Author.Fill.{fill_none, fill_more}
-use Prim.Native.Nat.{◌≤◌, ◌-◌}
 use mathlib.Core.Path.{◌≡◌, refl, ◌∙◌}
-use mathlib.Core.List.{◌++◌, append-nil}
+use mathlib.Core.List.{append-nil}
 use native.Mathlib.Omega.{arith}
-use lib.ListN.{length, drop, replicate, length-set}
+use lib.ListN.{length, length-set}
 use lib.Seq.{drop-length}
 use Rattle.bitmaps.proofs.inner.clear.Goals as goal
 

@@ -1,8 +1,6 @@
 -- `inner::count` meets its contract: what is counted, and the size of what is left, make the size. Assumes nothing.
-use Prim.Native.Nat.{◌+◌, ◌*◌, ◌≤◌, ◌-◌}
 use mathlib.Core.Path.{◌≡◌}
 use native.Mathlib.Omega.{arith}
-use borrow.Author.Rules.{rules}
 use lib.ListN.{length, drop}
 use lib.Seq.{drop-length}
 use lib.Count.{ones-le}
@@ -13,13 +11,13 @@ use Rattle.bitmaps.proofs.inner.count.Goals as goal
 pub overflow_add-n : goal.overflow_add-n
 overflow_add-n c =
     let i = c.loop-word.word in
-    omega (arith, ones-le 64 _ (c.shared_slice_known-1.given i).fits)
+    omega (arith, ones-le 64 _ (c.type_inv.a i).fits)
 
 pub loop-word-preserved : goal.loop-word-preserved
 loop-word-preserved c =
     let i = c.loop-word.word in
     let a = c.args.a.now in
-    let few = ones-le 64 _ (c.shared_slice_known-1.given i).fits in
+    let few = ones-le 64 _ (c.type_inv.a i).fits in
     let next = size-drop a i c.loop-word-test.true in
     (omega arith, omega arith, omega arith)
 

@@ -1,12 +1,7 @@
 use Prim.Native.Nat.{◌+◌, ◌*◌, ◌≤◌, ◌-◌}
 use mathlib.Core.Path.{◌≡◌}
-use native.Mathlib.Omega.{arith}
-use borrow.Author.Rules.{rules}
 use lib.ListN.{length, drop}
-use lib.Seq.{drop-length}
-use lib.Count.{ones-le}
 use Rattle.bitmaps.specs.Words.{size}
-use Rattle.bitmaps.proofs.Size.{size-drop}
 use Rattle.bitmaps.proofs.inner.count.Given as goal
 
 abbrev pub invariant-loop-word : goal.invariant-loop-word

@@ -1,13 +1,7 @@
-use borrow.Author.Rules.{rules}
 use Prim.Native.Nat.{◌-◌, ◌≤◌}
-use mathlib.Core.Path.{◌≡◌, refl, sym}
-use native.Mathlib.Omega.{arith}
-use borrow.Author.Tests.{eq-eqb, ne_eqb}
-use lib.ListN.{length, drop, get_or}
-use lib.Seq.{drop-length}
-use lib.Count.{ones}
+use mathlib.Core.Path.{◌≡◌}
+use lib.ListN.{length, drop}
 use Rattle.bitmaps.specs.Words.{size}
-use Rattle.bitmaps.proofs.Size.{size-drop, ones_none}
 use Rattle.bitmaps.proofs.inner.is_empty.Given as goal
 
 abbrev pub invariant-loop-i : goal.invariant-loop-i

@@ -1,11 +1,10 @@
 -- `inner::next` meets its contract: no id stands between `from` and word q. Assumes nothing.
-use Prim.Native.Nat.{ℕ, ◌≤◌, ◌<◌, ◌-◌, ◌*◌, ◌/◌, ◌%◌, ◌^◌}
+use Prim.Native.Nat.{◌≤◌, ◌<◌, ◌*◌, ◌/◌, ◌%◌, ◌^◌}
 use mathlib.Core.Path.{◌≡◌, refl}
 use native.Mathlib.Omega.{arith}
 use borrow.Author.Rules.{rules}
-use lib.ListN.{length, get_or}
+use lib.ListN.{get_or}
 use mathlib.Core.Logic.{⊎_elim}
-use Rattle.bitmaps.specs.Words.{has}
 use Rattle.bitmaps.proofs.Digits.{Words}
 use Rattle.bitmaps.proofs.Rising.{le-or-lt, inside, found, before, bare, past_end}
 use Rattle.bitmaps.proofs.inner.next.Goals as goal
@@ -18,7 +17,7 @@ overflow_cast-result c =
     let start = c in
     let a = start.args.a.now in
     let f = start.args.from in
-    let w : Words a = λ i. (c.shared_slice_known-1.given i).fits in
+    let w : Words a = λ i. (c.type_inv.a i).fits in
     let y = get_or a (f / 64) 0 / 2 ^ (f % 64) in
     let p : 0 < y = omega arith in
     let s : f % 64 < 64 = omega arith in
@@ -30,7 +29,7 @@ overflow_add-result c =
     let start = c in
     let a = start.args.a.now in
     let f = start.args.from in
-    let w : Words a = λ i. (c.shared_slice_known-1.given i).fits in
+    let w : Words a = λ i. (c.type_inv.a i).fits in
     let y = get_or a (f / 64) 0 / 2 ^ (f % 64) in
     let p : 0 < y = omega arith in
     let s : f % 64 < 64 = omega arith in
@@ -42,7 +41,7 @@ returns-then-first-ne0 c =
     let start = c in
     let a = start.args.a.now in
     let f = start.args.from in
-    let w : Words a = λ i. (c.shared_slice_known-1.given i).fits in
+    let w : Words a = λ i. (c.type_inv.a i).fits in
     let y = get_or a (f / 64) 0 / 2 ^ (f % 64) in
     let p : 0 < y = omega arith in
     let s : f % 64 < 64 = omega arith in
@@ -58,7 +57,7 @@ loop-q-init c =
     let start = c in
     let a = start.args.a.now in
     let f = start.args.from in
-    let w : Words a = λ i. (c.shared_slice_known-1.given i).fits in (
+    let w : Words a = λ i. (c.type_inv.a i).fits in (
       search rules,
       search rules,
       λ j l h. bare a (f / 64) (f % 64) (get_or a (f / 64) 0 / 2 ^ (f % 64)) w (omega arith) refl c.if-first-ne0.false j (omega arith) (omega arith),
@@ -69,7 +68,7 @@ overflow_cast-result-then-x-ne0 c =
     let start = c in
     let a = start.args.a.now in
     let q = c.loop-q.q in
-    let w : Words a = λ i. (c.shared_slice_known-in-loop-q-1.given i).fits in
+    let w : Words a = λ i. (c.type_inv.a i).fits in
     let x = get_or a q 0 in
     let p : 0 < x = omega arith in
     let e : x ≡ x / 2 ^ 0 = omega arith in
@@ -81,7 +80,7 @@ overflow_add-result-then-x-ne0 c =
     let start = c in
     let a = start.args.a.now in
     let q = c.loop-q.q in
-    let w : Words a = λ i. (c.shared_slice_known-in-loop-q-1.given i).fits in
+    let w : Words a = λ i. (c.type_inv.a i).fits in
     let x = get_or a q 0 in
     let p : 0 < x = omega arith in
     let e : x ≡ x / 2 ^ 0 = omega arith in
@@ -93,7 +92,7 @@ returns-then-x-ne0 c =
     let start = c in
     let a = start.args.a.now in
     let q = c.loop-q.q in
-    let w : Words a = λ i. (c.shared_slice_known-in-loop-q-1.given i).fits in
+    let w : Words a = λ i. (c.type_inv.a i).fits in
     let x = get_or a q 0 in
     let p : 0 < x = omega arith in
     let e : x ≡ x / 2 ^ 0 = omega arith in
@@ -113,7 +112,7 @@ loop-q-preserved c =
     let start = c in
     let a = start.args.a.now in
     let q = c.loop-q.q in
-    let w : Words a = λ i. (c.shared_slice_known-in-loop-q-1.given i).fits in
+    let w : Words a = λ i. (c.type_inv.a i).fits in
     let e : get_or a q 0 ≡ get_or a q 0 / 2 ^ 0 = omega arith in (
       search rules,
       search rules,

@@ -1,12 +1,7 @@
-use Prim.Native.Nat.{ℕ, ◌≤◌, ◌<◌, ◌-◌, ◌*◌, ◌/◌, ◌%◌, ◌^◌}
-use mathlib.Core.Path.{◌≡◌, refl}
-use native.Mathlib.Omega.{arith}
-use borrow.Author.Rules.{rules}
-use lib.ListN.{length, get_or}
-use mathlib.Core.Logic.{⊎_elim}
+use Prim.Native.Nat.{ℕ, ◌≤◌, ◌<◌, ◌-◌, ◌*◌}
+use mathlib.Core.Path.{◌≡◌}
+use lib.ListN.{length}
 use Rattle.bitmaps.specs.Words.{has}
-use Rattle.bitmaps.proofs.Digits.{Words}
-use Rattle.bitmaps.proofs.Rising.{le-or-lt, inside, found, before, bare, past_end}
 use Rattle.bitmaps.proofs.inner.next.Given as goal
 
 abbrev pub invariant-loop-q : goal.invariant-loop-q

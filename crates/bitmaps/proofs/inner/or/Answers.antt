@@ -1,5 +1,4 @@
 -- `inner::or` meets its contract: the first i words are united. Assumes nothing.
-use Prim.Native.Nat.{◌≤◌, ◌-◌}
 use mathlib.Core.Path.{◌≡◌, refl, ◌∙◌}
 use native.Mathlib.Omega.{arith}
 use borrow.Author.Rules.{rules}

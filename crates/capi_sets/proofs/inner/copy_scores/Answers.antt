@@ -11,24 +11,6 @@ use Rattle.capi_sets.proofs.inner.copy_scores.Goals as goal
 pub loop-i-init : goal.loop-i-init
 loop-i-init c = (search rules, refl, refl)
 
-pub offset_bounds-from-i : goal.offset_bounds-from-i
-offset_bounds-from-i c = omega (arith, c.well-formed, c.requires.0)
-
-pub bounds-from-i : goal.bounds-from-i
-bounds-from-i c = omega (arith, c.requires.0)
-
-pub offset_bounds-to-i : goal.offset_bounds-to-i
-offset_bounds-to-i c = omega (arith, c.well-formed, c.requires.1)
-
-pub bounds-to-i : goal.bounds-to-i
-bounds-to-i c = omega (arith, c.requires.1)
-
-pub overflow_add-i : goal.overflow_add-i
-overflow_add-i c = omega (arith, c.requires.0)
-
-pub loop-i-smaller : goal.loop-i-smaller
-loop-i-smaller c = omega arith
-
 pub loop-i-preserved : goal.loop-i-preserved
 loop-i-preserved c =
     let v = c.loop-i.invariant in

@@ -13,35 +13,17 @@ use Rattle.capi_sets.proofs.inner.feed_all.Goals as goal
 pub loop-i-init : goal.loop-i-init
 loop-i-init c = (search rules, rw sub-zero)
 
-pub offset_bounds-ids-i : goal.offset_bounds-ids-i
-offset_bounds-ids-i c = omega (arith, c.well-formed)
-
-pub bounds-ids-i : goal.bounds-ids-i
-bounds-ids-i c = omega arith
-
-pub offset_bounds-scores-i : goal.offset_bounds-scores-i
-offset_bounds-scores-i c = omega (arith, c.well-formed, c.requires)
-
-pub bounds-scores-i : goal.bounds-scores-i
-bounds-scores-i c = omega (arith, c.requires)
-
 pub returns-then-fed-ne0 : goal.returns-then-fed-ne0
 returns-then-fed-ne0 c =
     let h : c.loop-i.i < length c.args.ids.now = omega arith in
-    feed-ends c.loop-i.auto c.loop-i.i c.args.ids.now c.args.scores.now _ _ h c.requires _ c.feed-fed.ensures c.if-fed-ne0.true ∙ c.loop-i.invariant.1
-
-pub overflow_add-i : goal.overflow_add-i
-overflow_add-i c = omega (arith, c.well-formed)
-
-pub loop-i-smaller : goal.loop-i-smaller
-loop-i-smaller c = omega arith
+    feed-ends c.loop-i.kept c.loop-i.i c.args.ids.now c.args.scores.now _ _ h c.requires _ c.feed-fed.ensures c.if-fed-ne0.true ∙ c.loop-i.invariant.1
 
 pub loop-i-preserved : goal.loop-i-preserved
 loop-i-preserved c =
     let h : c.loop-i.i < length c.args.ids.now = omega arith in
-    (omega arith, feed-goes c.loop-i.auto c.loop-i.i c.args.ids.now c.args.scores.now _ _ h c.requires _ c.feed-fed.ensures c.if-fed-ne0.false ∙ c.loop-i.invariant.1)
+    (omega arith, feed-goes c.loop-i.kept c.loop-i.i c.args.ids.now c.args.scores.now _ _ h c.requires _ c.feed-fed.ensures c.if-fed-ne0.false ∙ c.loop-i.invariant.1)
 
 pub returns : goal.returns
 returns c =
     let h : length c.args.ids.now ≤ c.loop-i.i = omega arith in
-    feed-over c.loop-i.auto c.loop-i.i c.args.ids.now c.args.scores.now h ∙ c.loop-i.invariant.1
+    feed-over c.loop-i.kept c.loop-i.i c.args.ids.now c.args.scores.now h ∙ c.loop-i.invariant.1

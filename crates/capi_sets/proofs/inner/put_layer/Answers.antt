@@ -11,7 +11,7 @@ use Rattle.capi_sets.proofs.inner.put_layer.Goals as goal
 
 pub returns-in-Layer : goal.returns-in-Layer
 returns-in-Layer c =
-    ap (λ (l : List ℕ). single 0 l) (one_place c.args.out.now _ c.requires) ∙ sym (ap (λ (a : Chosen). layerPut a c.args.out.now) c.answer-1.given.1)
+    ap (λ (l : List ℕ). single 0 l) (one_place c.args.out.now _ c.requires) ∙ sym (ap (λ (a : Chosen). layerPut a c.args.out.now) c.in-Layer.is)
 
 pub returns-in-Refused : goal.returns-in-Refused
-returns-in-Refused c = sym (ap (λ (a : Chosen). layerPut a c.args.out.now) c.answer-in-Refused-1.given.1)
+returns-in-Refused c = sym (ap (λ (a : Chosen). layerPut a c.args.out.now) c.in-Refused.is)

@@ -1,18 +1,17 @@
 -- `inner::cardinalities` meets its contract: the first i layers are counted. Assumes nothing.
 -- the next layer is within the layers
 use borrow.Author.Rules.{rules}
-use Prim.Native.Nat.{◌≤◌, ◌-◌, ◌*◌, ◌+◌}
+use Prim.Native.Nat.{◌≤◌, ◌*◌, ◌+◌}
 use mathlib.Core.Path.{◌≡◌, refl, ◌∙◌}
-use mathlib.Core.List.{◌++◌}
 use native.Mathlib.Nat.{mul-le-mul_right}
 use native.Mathlib.Omega.{arith}
-use lib.ListN.{length, length-take, length-set}
-use Rattle.counting_bitmap.specs.Layers.{countsOf, empty}
+use lib.ListN.{length-take, length-set}
+use Rattle.counting_bitmap.specs.Layers.{countsOf}
 use Rattle.counting_bitmap.proofs.Places.{counts-turn}
 use Rattle.counting_bitmap.proofs.inner.cardinalities.Goals as goal
-use Rattle.counting_bitmap.proofs.inner.cardinalities.Tie as tie
+use Rattle.counting_bitmap.proofs.inner.cardinalities.Goals.{In-loop-i}
 
-room : (c : tie.In-loop-i invariant-loop decreases-loop) → (c.loop-i.i + 1) * c.args.w ≤ c.args.n * c.args.w
+room : (c : In-loop-i) → (c.loop-i.i + 1) * c.args.w ≤ c.args.n * c.args.w
 room c = mul-le-mul_right _ (omega arith)
 
 pub loop-i-init : goal.loop-i-init
@@ -20,19 +19,19 @@ unfolding countsOf
 loop-i-init c = (search rules, omega arith, refl, refl)
 
 pub overflow_add-at : goal.overflow_add-at
-overflow_add-at c = omega (arith, room c)
+overflow_add-at c = omega (arith, room (goal.at.overflow_add-at c).In-loop-i)
 
 pub offset_bounds-layers-at : goal.offset_bounds-layers-at
-offset_bounds-layers-at c = omega (arith, room c)
+offset_bounds-layers-at c = omega (arith, room (goal.at.offset_bounds-layers-at c).In-loop-i)
 
 pub slice_bounds-count-end : goal.slice_bounds-count-end
-slice_bounds-count-end c = omega (arith, room c)
+slice_bounds-count-end c = omega (arith, room (goal.at.slice_bounds-count-end c).In-loop-i)
 
 pub count-requires : goal.count-requires
 count-requires c = rw length-take (omega arith)
 
 pub overflow_add-at-in-loop-i : goal.overflow_add-at-in-loop-i
-overflow_add-at-in-loop-i c = omega (arith, room c)
+overflow_add-at-in-loop-i c = omega (arith, room (goal.at.overflow_add-at-in-loop-i c).In-loop-i)
 
 pub loop-i-preserved : goal.loop-i-preserved
 loop-i-preserved c =

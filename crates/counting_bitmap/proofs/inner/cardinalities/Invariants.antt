@@ -1,12 +1,8 @@
-use borrow.Author.Rules.{rules}
-use Prim.Native.Nat.{◌≤◌, ◌-◌, ◌*◌, ◌+◌}
-use mathlib.Core.Path.{◌≡◌, refl, ◌∙◌}
+use Prim.Native.Nat.{◌≤◌, ◌-◌, ◌*◌}
+use mathlib.Core.Path.{◌≡◌}
 use mathlib.Core.List.{◌++◌}
-use native.Mathlib.Nat.{mul-le-mul_right}
-use native.Mathlib.Omega.{arith}
-use lib.ListN.{length, length-take, length-set}
+use lib.ListN.{length}
 use Rattle.counting_bitmap.specs.Layers.{countsOf, empty}
-use Rattle.counting_bitmap.proofs.Places.{counts-turn}
 use Rattle.counting_bitmap.proofs.inner.cardinalities.Given as goal
 
 abbrev pub invariant-loop-i : goal.invariant-loop-i

@@ -1,11 +1,10 @@
 -- `inner::carry` meets its contract: the first i words are done, and `any` holds a digit exactly if one of them is carried on. Assumes nothing.
 use borrow.Author.Rules.{rules}
-use Prim.Native.Nat.{ℕ, ◌≤◌, ◌<◌, ◌-◌}
+use Prim.Native.Nat.{◌<◌}
 use mathlib.Core.Bool.{not}
 use mathlib.Core.Path.{◌≡◌, refl, ap, sym, ◌∙◌}
 use native.Mathlib.Omega.{arith}
 use native.Mathlib.Numerals.{add-one}
-use lib.Dec.{eqb}
 use lib.ListN.{length, take, length-set}
 use lib.Seq.{take-length}
 use lib.Bits.{bit_and, bit_or}
@@ -13,10 +12,8 @@ use Rattle.bitmaps.specs.Words.{size, is_empty, shared}
 use Rattle.bitmaps.proofs.Digits.{byWord-at}
 use Rattle.bitmaps.proofs.Zip.{byWordTo, byWordTo-at, byWordTo-suc, byWordTo-all, byWord-length, byWord-flip}
 use Rattle.counting_bitmap.proofs.Stop.{any-more}
+use Rattle.counting_bitmap.proofs.inner.carry.Invariants.{flipped}
 use Rattle.counting_bitmap.proofs.inner.carry.Goals as goal
-
-abbrev flipped : ℕ → ℕ → ℕ
-flipped x y = bit_and y x
 
 pub loop-i-init : goal.loop-i-init
 unfolding byWordTo size

@@ -1,18 +1,15 @@
-use borrow.Author.Rules.{rules}
-use Prim.Native.Nat.{ℕ, ◌≤◌, ◌<◌, ◌-◌}
-use mathlib.Core.Bool.{not}
-use mathlib.Core.Path.{◌≡◌, refl, ap, sym, ◌∙◌}
-use native.Mathlib.Omega.{arith}
-use native.Mathlib.Numerals.{add-one}
+use Prim.Native.Nat.{ℕ, ◌≤◌, ◌-◌}
+use mathlib.Core.Path.{◌≡◌}
 use lib.Dec.{eqb}
-use lib.ListN.{length, take, length-set}
-use lib.Seq.{take-length}
+use lib.ListN.{length, take}
 use lib.Bits.{bit_and, bit_or}
-use Rattle.bitmaps.specs.Words.{size, is_empty, shared}
-use Rattle.bitmaps.proofs.Digits.{byWord-at}
-use Rattle.bitmaps.proofs.Zip.{byWordTo, byWordTo-at, byWordTo-suc, byWordTo-all, byWord-length, byWord-flip}
-use Rattle.counting_bitmap.proofs.Stop.{any-more}
+use Rattle.bitmaps.specs.Words.{is_empty, shared}
+use Rattle.bitmaps.proofs.Zip.{byWordTo}
 use Rattle.counting_bitmap.proofs.inner.carry.Given as goal
+
+-- what stays of a set's word where a layer's word takes it
+abbrev pub flipped : ℕ → ℕ → ℕ
+flipped x y = bit_and y x
 
 abbrev pub invariant-loop-i : goal.invariant-loop-i
 invariant-loop-i l =

@@ -1,8 +1,7 @@
 -- `layers_ok` meets its contract. Assumes nothing.
-use borrow.Author.Rules.{rules}
 use mathlib.Core.Path.{◌≡◌, sym, ◌∙◌}
 use mathlib.Core.Bool.{true, false}
-use borrow.Author.Tests.{not-true, not-false, le-leb, lt-leb}
+use borrow.Author.Tests.{le-leb, lt-leb}
 use Rattle.paper.specs.Geometry.{capOk}
 use Rattle.counting_bitmap.specs.Answers.{layersOk}
 use Rattle.counting_bitmap.proofs.inner.layers_ok.Goals as goal
@@ -10,17 +9,17 @@ use Rattle.counting_bitmap.proofs.inner.layers_ok.Goals as goal
 pub returns-then-not-capacity_ok : goal.returns-then-not-capacity_ok
 unfolding layersOk
 returns-then-not-capacity_ok c =
-    let bad : capOk c.args.cap ≡ false = sym c.capacity_ok.ensures ∙ not-true _ c.if-not-capacity_ok.true-raw in
+    let bad : capOk c.args.cap ≡ false = sym c.capacity_ok.ensures ∙ c.if-not-capacity_ok.true in
     rw bad
 
 pub returns-then-n-lt1 : goal.returns-then-n-lt1
 unfolding layersOk
 returns-then-n-lt1 c =
-    let good : capOk c.args.cap ≡ true = sym c.capacity_ok.ensures ∙ not-false _ c.if-not-capacity_ok.false-raw in
+    let good : capOk c.args.cap ≡ true = sym c.capacity_ok.ensures ∙ c.if-not-capacity_ok.false in
     rw (good, lt-leb _ _ c.if-n-lt1.true)
 
 pub returns : goal.returns
 unfolding layersOk
 returns c =
-    let good : capOk c.args.cap ≡ true = sym c.capacity_ok.ensures ∙ not-false _ c.if-not-capacity_ok.false-raw in
+    let good : capOk c.args.cap ≡ true = sym c.capacity_ok.ensures ∙ c.if-not-capacity_ok.false in
     rw (good, le-leb _ _ c.if-n-lt1.false)

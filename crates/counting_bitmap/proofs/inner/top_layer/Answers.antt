@@ -1,9 +1,8 @@
 -- `inner::top_layer` meets its contract: the answer lies below layer i. Assumes nothing.
 use borrow.Author.Rules.{rules}
-use Prim.Native.Nat.{◌≤◌, ◌*◌}
 use mathlib.Core.Path.{◌≡◌, refl, sym, ◌∙◌}
 use native.Mathlib.Omega.{arith}
-use lib.ListN.{length, length-take}
+use lib.ListN.{length-take}
 use Rattle.counting_bitmap.specs.TopLayer.{top_of}
 use Rattle.counting_bitmap.proofs.Highest.{less_one, top-hit, top-miss}
 use Rattle.counting_bitmap.proofs.inner.top_layer.Goals as goal
@@ -25,7 +24,7 @@ returns-then-search_k-count c =
     let l = c.loop-i in
     let args = c.args in
     sym (l.invariant.3
-    ∙ top-hit l.i args.w l.at args.layers.now args.search-k c.count.result c.loop-i-test.true l.invariant.1 c.count.ensures c.if-search_k-count.true)
+    ∙ top-hit l.i args.w l.at args.layers.now args.search_k c.count.result c.loop-i-test.true l.invariant.1 c.count.ensures c.if-search_k-count.true)
 
 pub loop-i-preserved : goal.loop-i-preserved
 loop-i-preserved c =
@@ -35,7 +34,7 @@ loop-i-preserved c =
       omega (arith, less_one l.i args.w c.loop-i-test.true),
       omega arith,
       l.invariant.3
-          ∙ top-miss l.i args.w l.at args.layers.now args.search-k c.count.result c.loop-i-test.true l.invariant.1 c.count.ensures c.if-search_k-count.false,
+          ∙ top-miss l.i args.w l.at args.layers.now args.search_k c.count.result c.loop-i-test.true l.invariant.1 c.count.ensures c.if-search_k-count.false,
     )
 
 pub returns : goal.returns

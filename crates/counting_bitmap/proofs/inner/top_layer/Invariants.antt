@@ -1,10 +1,7 @@
-use borrow.Author.Rules.{rules}
 use Prim.Native.Nat.{◌≤◌, ◌*◌}
-use mathlib.Core.Path.{◌≡◌, refl, sym, ◌∙◌}
-use native.Mathlib.Omega.{arith}
-use lib.ListN.{length, length-take}
+use mathlib.Core.Path.{◌≡◌}
+use lib.ListN.{length}
 use Rattle.counting_bitmap.specs.TopLayer.{top_of}
-use Rattle.counting_bitmap.proofs.Highest.{less_one, top-hit, top-miss}
 use Rattle.counting_bitmap.proofs.inner.top_layer.Given as goal
 
 abbrev pub invariant-loop-i : goal.invariant-loop-i

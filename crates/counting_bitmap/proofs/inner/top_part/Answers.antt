@@ -1,5 +1,4 @@
 -- `inner::top_part` meets its contract. Assumes nothing.
-use borrow.Author.Rules.{rules}
 use Prim.Native.Nat.{◌+◌, ◌*◌, ◌-◌, ◌≤◌}
 use mathlib.Core.Path.{◌≡◌, sym, ap, ◌∙◌}
 use native.Mathlib.Nat.{mul-le-mul_right}
@@ -7,32 +6,32 @@ use native.Mathlib.Omega.{arith}
 use Rattle.counting_bitmap.specs.TopLayer.{part_of}
 use Rattle.counting_bitmap.proofs.Highest.{top-layer-is}
 use Rattle.counting_bitmap.proofs.inner.top_part.Goals as goal
-use Rattle.counting_bitmap.proofs.inner.top_part.Tie as tie
+use Rattle.counting_bitmap.proofs.inner.top_part.Goals.{In-Layer}
 
-room : (c : tie.In-Layer) → (c.i-1.given.0.0 + 1) * c.args.w ≤ c.args.n * c.args.w
+room : (c : In-Layer) → (c.in-Layer.i + 1) * c.args.w ≤ c.args.n * c.args.w
 room c =
     let args = c.args in
-    let top = top-layer-is args.n args.w args.layers.now args.search-k c.i-1.given.0.0 (sym c.top_layer.ensures ∙ c.i-1.given.1) in
+    let top = top-layer-is args.n args.w args.layers.now args.search_k c.in-Layer.i (sym c.top_layer.ensures ∙ c.in-Layer.is) in
     mul-le-mul_right _ (omega arith)
 
 pub overflow_mul-a : goal.overflow_mul-a
-overflow_mul-a c = omega (arith, room c)
+overflow_mul-a c = omega (arith, room (goal.at.overflow_mul-a c).In-Layer)
 
 pub overflow_add-e : goal.overflow_add-e
-overflow_add-e c = omega (arith, room c)
+overflow_add-e c = omega (arith, room (goal.at.overflow_add-e c).In-Layer)
 
 pub offset_bounds-layers-a : goal.offset_bounds-layers-a
-offset_bounds-layers-a c = omega (arith, room c)
+offset_bounds-layers-a c = omega (arith, room (goal.at.offset_bounds-layers-a c).In-Layer)
 
 pub slice_bounds-result-end : goal.slice_bounds-result-end
-slice_bounds-result-end c = omega (arith, room c)
+slice_bounds-result-end c = omega (arith, room (goal.at.slice_bounds-result-end c).In-Layer)
 
 pub returns-in-Layer : goal.returns-in-Layer
 returns-in-Layer c =
     let w = c.args.w in
-    let i = c.i-1.given.0.0 in
+    let i = c.in-Layer.i in
     let wide : i * w + w - i * w ≡ w = omega arith in
-    rw wide (ap (part_of _ _) (sym c.i-1.given.1 ∙ c.top_layer.ensures))
+    rw wide (ap (part_of _ _) (sym c.in-Layer.is ∙ c.top_layer.ensures))
 
 pub returns-in-Nothing : goal.returns-in-Nothing
-returns-in-Nothing c = ap (part_of _ _) (sym c.enum_told-1.given.1 ∙ c.top_layer.ensures)
+returns-in-Nothing c = ap (part_of _ _) (sym c.in-Nothing.is ∙ c.top_layer.ensures)

@@ -2,7 +2,6 @@
 use mathlib.Core.Path.{ap}
 use Prim.Native.Nat.{ℕ}
 use lib.Dec.{eqb}
-use borrow.Author.Rules.{rules}
 use Rattle.index_memory.specs.Memory.{basesOk}
 use Rattle.index_memory.proofs.inner.bases_length_ok.Goals as goal
 

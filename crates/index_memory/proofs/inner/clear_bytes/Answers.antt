@@ -1,18 +1,14 @@
 -- `index_memory::inner::clear_bytes` meets its contract. Assumes nothing.
-use Prim.Native.Nat.{ℕ, ◌+◌, ◌-◌, ◌≤◌, ◌<◌}
+use Prim.Native.Nat.{ℕ, ◌<◌}
 use mathlib.Core.Path.{◌≡◌, ◌∙◌, refl}
-use mathlib.Core.List.{◌++◌}
 use borrow.Author.Rules.{rules}
 use native.Mathlib.Omega.{arith}
-use lib.ListN.{length, replicate, drop, length-set}
+use lib.ListN.{length, length-set}
 use Rattle.index_memory.proofs.Fill.{fill_more, fill_none, fill-all}
 use Rattle.index_memory.proofs.inner.clear_bytes.Goals as goal
 
 pub loop-i-init : goal.loop-i-init
 loop-i-init c = (search rules, refl, fill_none {A = ℕ} 0 _)
-
-pub overflow_add-i : goal.overflow_add-i
-overflow_add-i c = omega (arith, c.well-formed)
 
 pub loop-i-smaller : goal.loop-i-smaller
 loop-i-smaller c = simp length-set (omega arith)
@@ -22,9 +18,6 @@ loop-i-preserved c =
     let v = c.loop-i.invariant in
     let h : c.loop-i.i < length c.args.bytes.now = omega arith in
     (omega arith, simp length-set v.1, rw v.2 (fill_more {A = ℕ} 0 _ _ h))
-
-pub shape_of-bytes : goal.shape_of-bytes
-shape_of-bytes c = c.loop-i.invariant.1
 
 pub returns : goal.returns
 returns c =

@@ -1,10 +1,7 @@
-use Prim.Native.Nat.{ℕ, ◌+◌, ◌-◌, ◌≤◌, ◌<◌}
-use mathlib.Core.Path.{◌≡◌, ◌∙◌, refl}
+use Prim.Native.Nat.{◌-◌, ◌≤◌}
+use mathlib.Core.Path.{◌≡◌}
 use mathlib.Core.List.{◌++◌}
-use borrow.Author.Rules.{rules}
-use native.Mathlib.Omega.{arith}
-use lib.ListN.{length, replicate, drop, length-set}
-use Rattle.index_memory.proofs.Fill.{fill_more, fill_none, fill-all}
+use lib.ListN.{length, replicate, drop}
 use Rattle.index_memory.proofs.inner.clear_bytes.Given as goal
 
 abbrev pub invariant-loop-i : goal.invariant-loop-i

@@ -1,22 +1,15 @@
 -- `index_memory::inner::clear_floats` meets its contract. Assumes nothing.
-use Prim.Native.Nat.{◌+◌, ◌-◌, ◌≤◌, ◌<◌}
+use Prim.Native.Nat.{◌<◌}
 use mathlib.Core.Path.{◌≡◌, ◌∙◌, refl}
-use mathlib.Core.List.{◌++◌}
 use borrow.Author.Rules.{rules}
 use native.Mathlib.Omega.{arith}
-use lib.ListN.{length, replicate, drop, length-set}
+use lib.ListN.{length, length-set}
 use lib.Ieee.{binary32, of_bits}
 use Rattle.index_memory.proofs.Fill.{fill_more, fill_none, fill-all}
 use Rattle.index_memory.proofs.inner.clear_floats.Goals as goal
 
 pub loop-i-init : goal.loop-i-init
 loop-i-init c = (search rules, refl, fill_none (of_bits binary32 0) _)
-
-pub offset_bounds-work-i : goal.offset_bounds-work-i
-offset_bounds-work-i c = omega (arith, c.well-formed)
-
-pub overflow_add-i : goal.overflow_add-i
-overflow_add-i c = omega (arith, c.well-formed)
 
 pub loop-i-smaller : goal.loop-i-smaller
 loop-i-smaller c = simp length-set (omega arith)
@@ -26,9 +19,6 @@ loop-i-preserved c =
     let v = c.loop-i.invariant in
     let h : c.loop-i.i < length c.args.work.now = omega arith in
     (omega arith, simp length-set v.1, rw v.2 (fill_more (of_bits binary32 0) _ _ h))
-
-pub shape_of-work : goal.shape_of-work
-shape_of-work c = c.loop-i.invariant.1
 
 pub returns : goal.returns
 returns c =

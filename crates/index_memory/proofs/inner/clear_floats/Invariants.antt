@@ -1,11 +1,8 @@
-use Prim.Native.Nat.{◌+◌, ◌-◌, ◌≤◌, ◌<◌}
-use mathlib.Core.Path.{◌≡◌, ◌∙◌, refl}
+use Prim.Native.Nat.{◌-◌, ◌≤◌}
+use mathlib.Core.Path.{◌≡◌}
 use mathlib.Core.List.{◌++◌}
-use borrow.Author.Rules.{rules}
-use native.Mathlib.Omega.{arith}
-use lib.ListN.{length, replicate, drop, length-set}
+use lib.ListN.{length, replicate, drop}
 use lib.Ieee.{binary32, of_bits}
-use Rattle.index_memory.proofs.Fill.{fill_more, fill_none, fill-all}
 use Rattle.index_memory.proofs.inner.clear_floats.Given as goal
 
 abbrev pub invariant-loop-i : goal.invariant-loop-i

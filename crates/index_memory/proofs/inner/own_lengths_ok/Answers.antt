@@ -1,6 +1,5 @@
 -- `index_memory::inner::own_lengths_ok` meets its contract. Assumes nothing.
 use mathlib.Core.Path.{sym, ◌∙◌}
-use borrow.Author.Rules.{rules}
 use borrow.Author.Tests.{eq-eqb, ne_eqb}
 use Rattle.index_memory.specs.Memory.{ownOk}
 use Rattle.index_memory.proofs.inner.own_lengths_ok.Goals as goal

@@ -1,5 +1,4 @@
 -- `index_memory::inner::store_lengths_ok` meets its contract. Assumes nothing.
-use borrow.Author.Rules.{rules}
 use borrow.Author.Tests.{eq-eqb, ne_eqb}
 use Rattle.index_memory.specs.Memory.{storeOk}
 use Rattle.index_memory.proofs.inner.store_lengths_ok.Goals as goal

@@ -1,18 +1,11 @@
 -- `vector::quotients_finite` meets its contract. Assumes nothing.
 use borrow.Author.Rules.{rules}
-use Prim.Native.Nat.{◌-◌, ◌≤◌}
-use mathlib.Core.Path.{◌≡◌, refl, sym, ◌∙◌}
+use mathlib.Core.Path.{refl, sym, ◌∙◌}
 use native.Mathlib.Omega.{arith}
-use lib.ListN.{length, drop}
 use borrow.Author.Tests.{not-true, not-false}
-use Rattle.vector.specs.Finite.{is_finite, every}
 use Rattle.vector.proofs.Vectors.{every-yes, every-no, every-end}
-use mathlib.Core.Bool.{Bool}
-use lib.Ieee.{Float, binary32, div}
+use Rattle.vector.proofs.quotients_finite.Invariants.{good}
 use Rattle.vector.proofs.quotients_finite.Goals as goal
-
-abbrev good : Float → Float → Bool
-good n x = is_finite (div binary32 x n)
 
 pub loop-i-init : goal.loop-i-init
 loop-i-init c = (search rules, refl)

@@ -13,10 +13,10 @@ pub loop-r-init : goal.loop-r-init
 loop-r-init c = (c.requires.0.room, search rules, refl)
 
 pub overflow_mul-r : goal.overflow_mul-r
-overflow_mul-r c = omega (arith, rows-within (length c.args.target.now) c.loop-r.r 4 (omega arith), c.well-formed, c.requires.0.rows)
+overflow_mul-r c = omega (arith, rows-within (length c.args.target.now) c.loop-r.r 4 (omega arith), c.requires.0.rows)
 
 pub dots_of_four-q-requires : goal.dots_of_four-q-requires
-dots_of_four-q-requires c = omega (arith, rows-within (length c.args.target.now) c.loop-r.r 4 (omega arith), c.well-formed, c.requires.0.rows)
+dots_of_four-q-requires c = omega (arith, rows-within (length c.args.target.now) c.loop-r.r 4 (omega arith), c.requires.0.rows)
 
 pub put_four-requires : goal.put_four-requires
 put_four-requires c = omega (arith, c.requires.0.room)

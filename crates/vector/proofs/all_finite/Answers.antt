@@ -1,10 +1,9 @@
 -- `vector::all_finite` meets its contract. Assumes nothing.
 use borrow.Author.Rules.{rules}
-use Prim.Native.Nat.{◌-◌, ◌≤◌}
-use mathlib.Core.Path.{◌≡◌, refl, sym, ◌∙◌}
+use Prim.Native.Nat.{◌-◌}
+use mathlib.Core.Path.{refl, sym, ◌∙◌}
 use native.Mathlib.Omega.{arith}
-use lib.ListN.{length, drop}
-use Rattle.vector.specs.Finite.{is_finite, every}
+use Rattle.vector.specs.Finite.{is_finite}
 use Rattle.vector.proofs.Vectors.{every-yes, every-no, every-end}
 use Rattle.vector.proofs.all_finite.Goals as goal
 

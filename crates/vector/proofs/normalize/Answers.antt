@@ -1,5 +1,4 @@
 -- `vector::normalize` meets its contract. Assumes nothing.
--- what each way through the code has found, and what is promised then
 use mathlib.Core.Path.{◌≡◌, sym, ◌∙◌, ap}
 use mathlib.Core.Bool.{true, false}
 use mathlib.Core.List.{List}
@@ -8,13 +7,13 @@ use Rattle.sqrt.specs.RootOf.{root}
 use Rattle.vector.specs.Fold.{dotOf, zero32}
 use Rattle.vector.specs.Finite.{is_finite, allFinite}
 use Rattle.vector.specs.Norm.{Normal, normal, normOf, normNumber, normalized, divided_by, allFiniteBy}
-use borrow.Author.Rules.{rules}
 use Rattle.vector.proofs.normalize.Goals as goal
 
 norm-is : (xs : List Float) (d n : Float) → d ≡ dotOf xs xs → n ≡ root d → n ≡ normOf xs
 unfolding normOf
 norm-is xs d n p q = q ∙ ap root p
 
+-- what each way through the code has found, and what is promised then
 module _ (xs : List Float) where
   abbrev outcome : Normal
   outcome = normal (normNumber xs) (normalized xs)

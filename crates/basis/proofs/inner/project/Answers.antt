@@ -1,12 +1,10 @@
 -- `basis::inner::project` meets its contract. Assumes nothing.
 use borrow.Author.Rules.{rules}
-use Prim.Native.Nat.{◌+◌, ◌-◌, ◌≤◌}
-use mathlib.Core.Path.{◌≡◌, sym, ◌∙◌}
-use mathlib.Core.List.{◌++◌}
+use Prim.Native.Nat.{◌-◌}
+use mathlib.Core.Path.{sym, ◌∙◌}
 use native.Mathlib.Nat.{add-sub_cancel_left}
 use native.Mathlib.Omega.{arith}
-use lib.ListN.{length, take, length-set}
-use Rattle.basis.specs.Project.{rows_from, projected}
+use lib.ListN.{length, length-set}
 use Rattle.basis.proofs.Sides.{rows-within, project-step, project-end}
 use Rattle.basis.proofs.inner.project.Goals as goal
 

@@ -1,11 +1,9 @@
 -- `basis::inner::rows_by_eight` meets its contract. Assumes nothing.
 use borrow.Author.Rules.{rules}
-use Prim.Native.Nat.{◌+◌, ◌-◌, ◌≤◌}
-use mathlib.Core.Path.{◌≡◌, ◌∙◌}
-use mathlib.Core.List.{◌++◌}
+use Prim.Native.Nat.{◌-◌}
+use mathlib.Core.Path.{◌∙◌}
 use native.Mathlib.Omega.{arith}
-use lib.ListN.{length, take}
-use Rattle.basis.specs.Project.{rows_from, projected}
+use lib.ListN.{length}
 use Rattle.basis.proofs.Sides.{rows-within, project-start, project-eight}
 use Rattle.basis.proofs.inner.rows_by_eight.Goals as goal
 

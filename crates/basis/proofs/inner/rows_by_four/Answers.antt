@@ -1,11 +1,9 @@
 -- `basis::inner::rows_by_four` meets its contract. Assumes nothing.
 use borrow.Author.Rules.{rules}
-use Prim.Native.Nat.{◌+◌, ◌-◌, ◌≤◌}
-use mathlib.Core.Path.{◌≡◌, refl, ◌∙◌}
-use mathlib.Core.List.{◌++◌}
+use Prim.Native.Nat.{◌-◌}
+use mathlib.Core.Path.{refl, ◌∙◌}
 use native.Mathlib.Omega.{arith}
-use lib.ListN.{length, take}
-use Rattle.basis.specs.Project.{rows_from}
+use lib.ListN.{length}
 use Rattle.basis.proofs.Sides.{rows-within, project-four}
 use Rattle.basis.proofs.inner.rows_by_four.Goals as goal
 

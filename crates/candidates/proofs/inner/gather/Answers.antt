@@ -7,10 +7,9 @@ use mathlib.Core.Path.{◌≡◌, refl, ◌∙◌, ap}
 use mathlib.Core.Bool.{true}
 use lib.ListN.{length}
 use Rattle.index_memory.proofs.Places.{part_end, part-long}
-use Rattle.counting_bitmap.specs.Layers.{empty, mergedAll, droppedAll}
-use Rattle.basis.specs.Bases.{projectionsFinite}
+use Rattle.counting_bitmap.specs.Layers.{empty}
 use Rattle.basis.proofs.Bases.{finite-none, finite-more, finite-no}
-use Rattle.candidates.specs.Gathering.{Query, queryOf, unionsFrom, layersOf, droppedOf}
+use Rattle.candidates.specs.Gathering.{Query, queryOf, layersOf, droppedOf}
 use Rattle.candidates.proofs.Bases.{times-by, was-finite, was-not, one_answer, one-layers, one-dropped, merged-more, dropped-more, gather-stopped, gather-ended}
 use Rattle.candidates.proofs.inner.gather.Goals as goal
 use Rattle.candidates.proofs.inner.gather.Goals.{In-loop-b}

@@ -1,14 +1,14 @@
 -- `candidates::inner::gather_basis` meets its contract. Assumes nothing.
 use native.Mathlib.Omega.{arith}
-use borrow.Author.Tests.{not-true, not-false}
 use Prim.Native.Nat.{ℕ, ◌*◌}
-use mathlib.Core.Path.{◌≡◌, refl, ◌∙◌, ap, sym}
+use mathlib.Core.Path.{◌≡◌, refl, ◌∙◌, ap, sym, subst}
 use lib.ListN.{length}
 use Rattle.bitmaps.specs.Words.{size}
 use Rattle.counting_bitmap.specs.Layers.{merged, fallen}
 use Rattle.vector.specs.Finite.{allFinite}
+use Rattle.bitmaps.proofs.Digits.{Words}
+use Rattle.candidates.proofs.Words.{words-fallen, words-of-union}
 use Rattle.candidates.proofs.Bases.{times-by, union-is, few-of, basis-bad, basis-good}
-use borrow.Author.Rules.{rules}
 use Rattle.candidates.proofs.inner.gather_basis.Goals as goal
 
 pub returns-then-not-all_finite : goal.returns-then-not-all_finite
@@ -42,7 +42,8 @@ returns c =
     let same : length c.spill_into.new.set ≡ w = c.spill_into.auto.set ∙ c.clear.auto.a in
     let fin = ap allFinite (sym c.project.ensures) ∙ sym c.all_finite.ensures ∙ c.if-not-all_finite.false in
     let un = union-is a.picks w a.faces.now _ c.project.new.work c.clear.new.a u c.clear.ensures c.project.ensures c.spill_into.ensures in
-    let few = few-of c.count-dropped.result c.merge.new.cur (λ i. (c.slice_known-9-1.given i).fits) (omega (arith, c.requires.w-high, c.merge.auto.cur, same)) c.count-dropped.ensures in
+    let words = words-fallen a.n (length u) a.layers.now u (rw same c.requires.layers) refl (subst Words (sym un) (words-of-union a.picks w a.faces.now _ (λ i. (c.type_inv.faces i).fits))) in
+    let few = few-of c.count-dropped.result c.merge.new.cur (subst Words (sym c.merge.ensures.1) words) (omega (arith, c.requires.w-high, c.merge.auto.cur, same)) c.count-dropped.ensures in
     basis-good a.n w a.picks a.basis.now a.faces.now a.target.now a.layers.now c.merge.new.layers c.count-dropped.result u fin few un
     (c.merge.ensures.0 ∙ ap (λ (k : ℕ). merged a.n k a.layers.now u) same)
     (c.count-dropped.ensures ∙ ap size (c.merge.ensures.1 ∙ ap (λ (k : ℕ). fallen a.n k a.layers.now u) same))

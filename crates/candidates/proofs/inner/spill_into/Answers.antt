@@ -7,9 +7,7 @@ use mathlib.Core.Bool.{true}
 use lib.ListN.{length, take, drop}
 use Rattle.index_memory.proofs.Places.{part_end, part-long}
 use Rattle.vector.specs.Finite.{allFinite}
-use Rattle.faces.specs.Slots.{slots}
 use Rattle.faces.proofs.Slots.{finite-picked}
-use Rattle.candidates.specs.Gathering.{joined}
 use Rattle.candidates.proofs.Spills.{spill-turn, spill-end}
 use Rattle.candidates.proofs.inner.spill_into.Goals as goal
 use Rattle.candidates.proofs.inner.spill_into.Goals.{After-pick-slot}

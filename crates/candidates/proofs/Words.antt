@@ -1,13 +1,18 @@
 -- Where every word of the face sets is below 2^64, as any lent word is, so is every word of a union and of the layers. Assumes nothing.
 use Prim.Native.Nat.{ℕ, zero, suc, ◌+◌, ◌*◌, ◌^◌, ◌<◌}
 use native.Mathlib.Omega.{arith}
+use mathlib.Core.Path.{◌≡◌, sym, ◌∙◌}
 use mathlib.Core.List.{List, [], ◌∷◌, ◌++◌}
 use lib.Bits.{bit_or, bit_and, or_lt, and_lt}
-use lib.ListN.{length, take, drop}
+use Rattle.std.proofs.lemmas.Nat.{and_le_r}
+use lib.ListN.{length, take, drop, length-drop}
+use lib.Ieee.{Float}
+use lib.Seq.{length-take-le}
 use Rattle.bitmaps.specs.Words.{by_word, union, shared}
 use Rattle.bitmaps.proofs.Digits.{Words}
+use Rattle.bitmaps.proofs.Zip.{byWord-length}
 use Rattle.bitmaps.proofs.Members.{words-empty}
-use Rattle.counting_bitmap.specs.Layers.{empty, layer, merged, mergedAll}
+use Rattle.counting_bitmap.specs.Layers.{empty, layer, merged, fallen, mergedAll}
 use Rattle.faces.specs.Slots.{slots}
 use Rattle.candidates.specs.Gathering.{faceSet, facesAt, joined, unionOf, Query, targetOn, unionAt, unionsFrom, layersOf}
 
@@ -55,6 +60,27 @@ words-merged (suc n) w ls c h k =
     let t = words_take w ls h in
     words_append (union (take w ls) c) (merged n w (drop w ls) (shared (take w ls) c)) (words-union (take w ls) c t k)
     (words-merged n w (drop w ls) (shared (take w ls) c) (words-drop w ls h) (words-shared (take w ls) c t k))
+
+-- a second list's words bound those that both share, where it is as long as the first
+words-shared-second : (a b : List ℕ) → length a ≡ length b → Words b → Words (shared a b)
+unfolding by_word
+words-shared-second [] b e h i = words-none i
+words-shared-second (x ∷ a) [] e h i = absurd (omega arith)
+words-shared-second (x ∷ a) (y ∷ b) e h zero = omega (arith, and_le_r x y, h 0)
+words-shared-second (x ∷ a) (y ∷ b) e h (suc i) = words-shared-second a b (omega arith) (λ j. h (suc j)) i
+
+-- what falls off the layers
+pub words-fallen : (n w : ℕ) (ls c : List ℕ) → length ls ≡ n * w → length c ≡ w → Words c → Words (fallen n w ls c)
+unfolding fallen
+words-fallen zero w ls c e f h = h
+words-fallen (suc n) w ls c e f h =
+    let l : length (take w ls) ≡ w = length-take-le w ls (omega arith) in
+    words-fallen n w (drop w ls) (shared (take w ls) c) (simp length-drop (omega arith)) (byWord-length _ (take w ls) c ∙ l) (words-shared-second (take w ls) c (l ∙ sym f) h)
+
+-- a union of face sets
+pub words-of-union : (picks w : ℕ) (fs : List ℕ) (p : List Float) → Words fs → Words (unionOf picks w fs p)
+unfolding unionOf
+words-of-union picks w fs p h = words-joined w fs (empty w) (slots picks p) h (words-empty w)
 
 words-at : (q : Query) (b : ℕ) → Words q.faces → Words (unionAt q b)
 unfolding unionAt unionOf

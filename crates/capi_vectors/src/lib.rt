@@ -1,5 +1,7 @@
 // The calls for C and Rust on vectors, bases and projections: a slice passes as a pointer and then a length. Each call checks the length of what it
 // writes its answer into, and is otherwise the public function that its comment names; none asks anything of its caller but that what is lent is there.
+#![tactic(auto)]
+
 ghost use Rattle.std.specs.Prelude.{◌≡◌, eqb, length};
 ghost use Rattle.paper.specs.Choice.{refuse};
 ghost use Rattle.sqrt.specs.RootOf.{root};

@@ -1,5 +1,7 @@
 // Faces: find_face_idx and the spilling of a search (helpers of vector_store.rs).
 // The face of a projection is the place of its entry of greatest absolute value, with that entry's sign.
+#![tactic(auto)]
+
 ghost use Rattle.std.specs.Prelude.{◌≡◌};
 ghost use Rattle.faces.specs.Slots.{faceOf, picks_of};
 ghost use Rattle.faces.specs.Answer.{faceNumber, FaceIs, spilling, spillOf};

@@ -1,5 +1,7 @@
 // orthonormalize (a helper of vector_store.rs).
 // A basis is d vectors of d components in one slice: component c of vector r stands at r * d + c. Row functions take the place r * d.
+#![tactic(auto)]
+
 ghost use Rattle.std.specs.Prelude.{◌≡◌, ◌+◌, ◌*◌, ◌-◌, ◌<◌, ◌≤◌, length, replicate};
 ghost use Rattle.vector.specs.Fold.{dotOf, zero32};
 ghost use Rattle.ortho.specs.Ortho.{row, reduced, normRow, pair_of, rows_of, roundOf, roundsOf, told, written, orthonormalized};

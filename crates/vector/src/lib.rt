@@ -1,5 +1,7 @@
 // Vectors: the dot product, the distance and normalising (vector.rs and spaces/simple.rs).
 // Every float operation is rounded once, and the operations come in index order.
+#![tactic(auto)]
+
 ghost use Rattle.std.specs.Prelude.{◌≡◌, eqb, length};
 ghost use Rattle.paper.specs.Choice.{refuse};
 ghost use Rattle.sqrt.specs.RootOf.{root};

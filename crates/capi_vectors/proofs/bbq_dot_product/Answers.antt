@@ -1,5 +1,4 @@
 -- `capi_vectors::bbq_dot_product` meets its contract. Assumes nothing.
-use borrow.Author.Rules.{rules}
 use Rattle.capi_vectors.proofs.Singles.{one-length}
 use Rattle.capi_vectors.proofs.Projections.{number-done}
 use Rattle.capi_vectors.proofs.bbq_dot_product.Goals as goal

@@ -1,8 +1,7 @@
 -- `faces::face_refusal` meets its contract. Assumes nothing.
 use mathlib.Core.Path.{sym, ◌∙◌}
-use borrow.Author.Tests.{le-leb, lt-leb, not-true, not-false}
+use borrow.Author.Tests.{le-leb, lt-leb}
 use Rattle.faces.specs.Answer.{faceNumber}
-use borrow.Author.Rules.{rules}
 use Rattle.faces.proofs.face_refusal.Goals as goal
 
 pub returns-then-d-lt1 : goal.returns-then-d-lt1
@@ -16,9 +15,9 @@ returns-then-d-gt1024 c = simp (le-leb _ _ c.if-d-lt1.false, lt-leb _ _ c.if-d-g
 pub returns-then-not-all_finite : goal.returns-then-not-all_finite
 unfolding faceNumber
 returns-then-not-all_finite c =
-    simp (le-leb _ _ c.if-d-lt1.false, le-leb _ _ c.if-d-gt1024.false, sym c.all_finite.ensures ∙ not-true c.all_finite.result c.if-not-all_finite.true-raw)
+    simp (le-leb _ _ c.if-d-lt1.false, le-leb _ _ c.if-d-gt1024.false, sym c.all_finite.ensures ∙ c.if-not-all_finite.true)
 
 pub returns : goal.returns
 unfolding faceNumber
 returns c =
-    simp (le-leb _ _ c.if-d-lt1.false, le-leb _ _ c.if-d-gt1024.false, sym c.all_finite.ensures ∙ not-false c.all_finite.result c.if-not-all_finite.false-raw)
+    simp (le-leb _ _ c.if-d-lt1.false, le-leb _ _ c.if-d-gt1024.false, sym c.all_finite.ensures ∙ c.if-not-all_finite.false)

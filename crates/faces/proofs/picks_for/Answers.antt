@@ -1,7 +1,6 @@
 -- `faces::picks_for` meets its contract. Assumes nothing.
 use borrow.Author.Tests.{le-leb, lt-leb}
 use Rattle.faces.specs.Slots.{picks_of}
-use borrow.Author.Rules.{rules}
 use Rattle.faces.proofs.picks_for.Goals as goal
 
 pub returns-then-spill-d : goal.returns-then-spill-d

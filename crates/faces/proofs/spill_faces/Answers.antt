@@ -5,7 +5,6 @@ use lib.ListN.{length}
 use Rattle.faces.specs.Slots.{HasFace}
 use Rattle.faces.proofs.Slots.{picks-within}
 use Rattle.faces.proofs.Answer.{has-face, spill-refused, spill-done}
-use borrow.Author.Rules.{rules}
 use Rattle.faces.proofs.spill_faces.Goals as goal
 
 pub returns-then-refusal-ne0 : goal.returns-then-refusal-ne0

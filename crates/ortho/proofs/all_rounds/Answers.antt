@@ -1,11 +1,8 @@
 -- `ortho::all_rounds` meets its contract. Assumes nothing.
 use borrow.Author.Rules.{rules}
-use Prim.Native.Nat.{◌-◌, ◌≤◌}
-use mathlib.Core.Path.{◌≡◌, refl, sym, ◌∙◌}
+use Prim.Native.Nat.{◌-◌}
+use mathlib.Core.Path.{refl, sym, ◌∙◌}
 use native.Mathlib.Nat.{sub-zero}
-use borrow.Author.Tests.{not-true, not-false}
-use lib.ListN.{length}
-use Rattle.ortho.specs.Ortho.{roundsOf}
 use Rattle.ortho.proofs.Loops.{rounds-fail, rounds-more, rounds-end}
 use Rattle.ortho.proofs.all_rounds.Goals as goal
 
@@ -17,7 +14,7 @@ returns-then-not-round c =
     let r = c in
     let at = r in
     let s = at.args in
-    sym at.loop-k.invariant.2 ∙ rounds-fail s.d s.n at.loop-k.k at.loop-k.out r.loop-k-test.true r.round.result r.round.new.out r.round.ensures (not-true _ c.if-not-round.true-raw)
+    sym at.loop-k.invariant.2 ∙ rounds-fail s.d s.n at.loop-k.k at.loop-k.out r.loop-k-test.true r.round.result r.round.new.out r.round.ensures (c.if-not-round.true)
 
 pub loop-k-preserved : goal.loop-k-preserved
 loop-k-preserved c =
@@ -26,7 +23,7 @@ loop-k-preserved c =
     let s = at.args in (
       r.round.auto.out ∙ at.loop-k.invariant.0,
       search rules,
-      sym (rounds-more s.d s.n at.loop-k.k at.loop-k.out r.loop-k-test.true r.round.result r.round.new.out r.round.ensures (not-false _ c.if-not-round.false-raw)) ∙ at.loop-k.invariant.2,
+      sym (rounds-more s.d s.n at.loop-k.k at.loop-k.out r.loop-k-test.true r.round.result r.round.new.out r.round.ensures (c.if-not-round.false)) ∙ at.loop-k.invariant.2,
     )
 
 pub returns : goal.returns

@@ -1,11 +1,7 @@
-use borrow.Author.Rules.{rules}
 use Prim.Native.Nat.{◌-◌, ◌≤◌}
-use mathlib.Core.Path.{◌≡◌, refl, sym, ◌∙◌}
-use native.Mathlib.Nat.{sub-zero}
-use borrow.Author.Tests.{not-true, not-false}
+use mathlib.Core.Path.{◌≡◌}
 use lib.ListN.{length}
 use Rattle.ortho.specs.Ortho.{roundsOf}
-use Rattle.ortho.proofs.Loops.{rounds-fail, rounds-more, rounds-end}
 use Rattle.ortho.proofs.all_rounds.Given as goal
 
 abbrev pub invariant-loop-k : goal.invariant-loop-k

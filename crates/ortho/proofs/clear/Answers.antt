@@ -1,9 +1,9 @@
 -- `ortho::clear` meets its contract. Assumes nothing.
 use borrow.Author.Rules.{rules}
-use Prim.Native.Nat.{ℕ, ◌-◌, ◌≤◌}
+use Prim.Native.Nat.{ℕ, ◌-◌}
 use mathlib.Core.Path.{◌≡◌, refl, sym, ◌∙◌, ap}
 use native.Mathlib.Omega.{arith}
-use lib.ListN.{length, take, length-set, replicate}
+use lib.ListN.{length, length-set, replicate}
 use lib.Seq.{take_all}
 use Rattle.vector.specs.Fold.{zero32}
 use Rattle.ortho.proofs.Loops.{fill_step}

@@ -1,11 +1,7 @@
-use borrow.Author.Rules.{rules}
-use Prim.Native.Nat.{ℕ, ◌-◌, ◌≤◌}
-use mathlib.Core.Path.{◌≡◌, refl, sym, ◌∙◌, ap}
-use native.Mathlib.Omega.{arith}
-use lib.ListN.{length, take, length-set, replicate}
-use lib.Seq.{take_all}
+use Prim.Native.Nat.{◌-◌, ◌≤◌}
+use mathlib.Core.Path.{◌≡◌}
+use lib.ListN.{length, take, replicate}
 use Rattle.vector.specs.Fold.{zero32}
-use Rattle.ortho.proofs.Loops.{fill_step}
 use Rattle.ortho.proofs.clear.Given as goal
 
 abbrev pub invariant-loop-k : goal.invariant-loop-k

@@ -1,9 +1,9 @@
 -- `ortho::copy_into` meets its contract. Assumes nothing.
 use borrow.Author.Rules.{rules}
-use Prim.Native.Nat.{◌-◌, ◌≤◌}
-use mathlib.Core.Path.{◌≡◌, refl}
+use Prim.Native.Nat.{◌-◌}
+use mathlib.Core.Path.{refl}
 use native.Mathlib.Omega.{arith}
-use lib.ListN.{length, take, length-set}
+use lib.ListN.{length-set}
 use Rattle.ortho.proofs.Loops.{copy_step, copy-end}
 use Rattle.ortho.proofs.copy_into.Goals as goal
 

@@ -1,9 +1,6 @@
-use borrow.Author.Rules.{rules}
 use Prim.Native.Nat.{◌-◌, ◌≤◌}
-use mathlib.Core.Path.{◌≡◌, refl}
-use native.Mathlib.Omega.{arith}
-use lib.ListN.{length, take, length-set}
-use Rattle.ortho.proofs.Loops.{copy_step, copy-end}
+use mathlib.Core.Path.{◌≡◌}
+use lib.ListN.{length, take}
 use Rattle.ortho.proofs.copy_into.Given as goal
 
 abbrev pub invariant-loop-k : goal.invariant-loop-k

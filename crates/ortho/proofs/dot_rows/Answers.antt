@@ -1,5 +1,4 @@
 -- `ortho::dot_rows` meets its contract. Assumes nothing.
-use borrow.Author.Rules.{rules}
 use mathlib.Core.Path.{◌∙◌}
 use native.Mathlib.Nat.{add-sub_cancel_left}
 use Rattle.ortho.proofs.dot_rows.Goals as goal

@@ -1,5 +1,4 @@
 -- `ortho::normalize_row` meets its contract. Assumes nothing.
-use borrow.Author.Rules.{rules}
 use mathlib.Core.Path.{ap}
 use Rattle.vector.specs.Norm.{Normal}
 use Rattle.ortho.proofs.Loops.{norm-row}

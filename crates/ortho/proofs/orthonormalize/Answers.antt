@@ -1,7 +1,4 @@
 -- `ortho::orthonormalize` meets its contract. Assumes nothing.
--- what stands behind the sixth test, as the last two answers use it
--- the rounds' own answer, from the basis that was copied
-use borrow.Author.Rules.{rules}
 use Prim.Native.Nat.{ℕ, ◌*◌, ◌<◌, ◌≤◌}
 use mathlib.Core.Path.{◌≡◌, sym, ◌∙◌, ap}
 use mathlib.Core.Bool.{Bool, true, false}
@@ -9,14 +6,13 @@ use mathlib.Core.List.{List}
 use mathlib.Core.Option.{none, some}
 use native.Mathlib.Nat.{mul-le-mul}
 use native.Mathlib.Omega.{arith}
-use borrow.Author.Tests.{not-true, not-false, le-leb, lt-leb, eq-eqb, ne_eqb}
+use borrow.Author.Tests.{le-leb, lt-leb, eq-eqb, ne_eqb}
 use lib.ListN.{length, replicate}
 use lib.Ieee.{Float}
 use Rattle.vector.specs.Fold.{zero32}
 use Rattle.vector.specs.Finite.{allFinite}
 use Rattle.ortho.specs.Ortho.{written, orthonormalized, roundsOf, told}
 use Rattle.ortho.proofs.orthonormalize.Goals as goal
-use Rattle.ortho.proofs.orthonormalize.Tie as tie
 
 module _ (d r : ℕ) (xs ys : List Float) where
   low : d < 1 → written 1 ys ≡ orthonormalized d r xs ys
@@ -57,37 +53,9 @@ module _ (d r : ℕ) (xs ys : List Float) where
               unfolding orthonormalized
               done zs h = simp (le-leb 1 d A, le-leb d 1024 B, le-leb r 8 C, eq-eqb (length xs) (d * d) X, eq-eqb (length ys) (d * d) Y, F, h)
 
-abbrev begun : tie.Else-not-all_finite → tie.Start
-begun c = c
-
-module _ (c : tie.Else6) where
-  abbrev five : tie.Else5
-  five = c.before.before
-
-  refused : roundsOf (begun c).args.d (begun c).args.rounds (begun c).args.basis.now ≡ none → written 6 (replicate ((begun c).args.d * (begun c).args.d) zero32) ≡ orthonormalized (begun c).args.d (begun c).args.rounds (begun c).args.basis.now (begun c).args.out.now
-  refused =
-      sixth (begun c).args.d (begun c).args.rounds (begun c).args.basis.now (begun c).args.out.now
-      five.before.before.before.before.if1.left
-      five.before.before.before.if2.left
-      five.before.before.if3.left
-      five.before.if4.left
-      five.if5.left
-      (sym c.before.all-finite.ensures ∙ not-false _ c.if6.false)
-
-  accepted : (zs : List Float) → roundsOf (begun c).args.d (begun c).args.rounds (begun c).args.basis.now ≡ some zs → written 0 zs ≡ orthonormalized (begun c).args.d (begun c).args.rounds (begun c).args.basis.now (begun c).args.out.now
-  accepted =
-      done (begun c).args.d (begun c).args.rounds (begun c).args.basis.now (begun c).args.out.now
-      five.before.before.before.before.if1.left
-      five.before.before.before.if2.left
-      five.before.before.if3.left
-      five.before.if4.left
-      five.if5.left
-      (sym c.before.all-finite.ensures ∙ not-false _ c.if6.false)
-
-rounds-said : (c : tie.After-all_rounds) → roundsOf (begun c).args.d (begun c).args.rounds (begun c).args.basis.now ≡ told c.all_rounds.result c.all_rounds.new.out
-rounds-said c =
-    let s = (begun c).args in
-    sym (ap (roundsOf s.d s.rounds) c.copy_into.ensures) ∙ c.all_rounds.ensures
+-- the rounds' own answer, from the basis that was copied
+rounds-said : (d r : ℕ) (xs copied zs : List Float) (b t : Bool) → copied ≡ xs → roundsOf d r copied ≡ told b zs → b ≡ t → roundsOf d r xs ≡ told t zs
+rounds-said d r xs copied zs b t e h q = rw (← e, h, q)
 
 pub returns-then-d-lt1 : goal.returns-then-d-lt1
 returns-then-d-lt1 c =
@@ -119,22 +87,22 @@ returns-then-out-n c =
 
 pub returns-then-not-all_finite : goal.returns-then-not-all_finite
 returns-then-not-all_finite c =
-    let five = c in
-    let s = five.args in
-    fifth s.d s.rounds s.basis.now s.out.now five.if-d-lt1.false five.if-d-gt1024.false five.if-rounds-gt8.false five.if-basis-n.false five.if-out-n.false (sym c.all_finite.ensures ∙ not-true _ c.if-not-all_finite.true-raw)
+    let s = c.args in
+    fifth s.d s.rounds s.basis.now s.out.now c.if-d-lt1.false c.if-d-gt1024.false c.if-rounds-gt8.false c.if-basis-n.false c.if-out-n.false (sym c.all_finite.ensures ∙ c.if-not-all_finite.true)
 
 pub returns-then-not-all_rounds : goal.returns-then-not-all_rounds
 returns-then-not-all_rounds c =
-    let seven = c in
-    let ar = seven in
-    let ci = ar in
-    let six = ci in
-    let n : length ar.all_rounds.new.out ≡ (begun six).args.d * (begun six).args.d = ar.all_rounds.auto.out ∙ ci.copy_into.auto.out ∙ six.if-out-n.false in
+    let s = c.args in
+    let n : length c.all_rounds.new.out ≡ s.d * s.d = c.all_rounds.auto.out ∙ c.copy_into.auto.out ∙ c.if-out-n.false in
     ap (written 6) (c.clear.ensures ∙ ap (λ (k : ℕ). replicate k zero32) n)
-    ∙ refused six (rounds-said ar ∙ ap (λ (t : Bool). told t ar.all_rounds.new.out) (not-true ar.all_rounds.result seven.if-not-all_rounds.true-raw))
+    ∙ sixth s.d s.rounds s.basis.now s.out.now c.if-d-lt1.false c.if-d-gt1024.false c.if-rounds-gt8.false c.if-basis-n.false c.if-out-n.false
+    (sym c.all_finite.ensures ∙ c.if-not-all_finite.false)
+    (rounds-said s.d s.rounds s.basis.now c.copy_into.new.out c.all_rounds.new.out c.all_rounds.result false c.copy_into.ensures c.all_rounds.ensures c.if-not-all_rounds.true)
 
 pub returns : goal.returns
 returns c =
-    let ar = c in
-    let six = ar in
-    accepted six ar.all_rounds.new.out (rounds-said ar ∙ ap (λ (t : Bool). told t ar.all_rounds.new.out) (not-false ar.all_rounds.result c.if-not-all_rounds.false-raw))
+    let s = c.args in
+    done s.d s.rounds s.basis.now s.out.now c.if-d-lt1.false c.if-d-gt1024.false c.if-rounds-gt8.false c.if-basis-n.false c.if-out-n.false
+    (sym c.all_finite.ensures ∙ c.if-not-all_finite.false)
+    c.all_rounds.new.out
+    (rounds-said s.d s.rounds s.basis.now c.copy_into.new.out c.all_rounds.new.out c.all_rounds.result true c.copy_into.ensures c.all_rounds.ensures c.if-not-all_rounds.false)

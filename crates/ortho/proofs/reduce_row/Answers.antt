@@ -1,11 +1,11 @@
 -- `ortho::reduce_row` meets its contract. Assumes nothing.
 use borrow.Author.Rules.{rules}
-use Prim.Native.Nat.{◌-◌, ◌≤◌}
-use mathlib.Core.Path.{◌≡◌, refl, sym, ◌∙◌}
+use Prim.Native.Nat.{◌-◌}
+use mathlib.Core.Path.{refl, sym, ◌∙◌}
 use native.Mathlib.Nat.{sub-zero}
 use native.Mathlib.Omega.{arith}
-use lib.ListN.{length, length-set}
-use Rattle.ortho.proofs.Loops.{reducing, reducing-step, reducing-end, reduced-loop}
+use lib.ListN.{length-set}
+use Rattle.ortho.proofs.Loops.{reducing-step, reducing-end, reduced-loop}
 use Rattle.ortho.proofs.reduce_row.Goals as goal
 
 pub loop-k-init : goal.loop-k-init

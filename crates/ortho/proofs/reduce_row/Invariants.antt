@@ -1,10 +1,7 @@
-use borrow.Author.Rules.{rules}
 use Prim.Native.Nat.{◌-◌, ◌≤◌}
-use mathlib.Core.Path.{◌≡◌, refl, sym, ◌∙◌}
-use native.Mathlib.Nat.{sub-zero}
-use native.Mathlib.Omega.{arith}
-use lib.ListN.{length, length-set}
-use Rattle.ortho.proofs.Loops.{reducing, reducing-step, reducing-end, reduced-loop}
+use mathlib.Core.Path.{◌≡◌}
+use lib.ListN.{length}
+use Rattle.ortho.proofs.Loops.{reducing}
 use Rattle.ortho.proofs.reduce_row.Given as goal
 
 abbrev pub invariant-loop-k : goal.invariant-loop-k

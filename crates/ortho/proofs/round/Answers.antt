@@ -1,12 +1,9 @@
 -- `ortho::round` meets its contract. Assumes nothing.
 use borrow.Author.Rules.{rules}
-use Prim.Native.Nat.{◌-◌, ◌≤◌}
-use mathlib.Core.Path.{◌≡◌, refl, sym, ◌∙◌}
+use Prim.Native.Nat.{◌-◌}
+use mathlib.Core.Path.{refl, sym, ◌∙◌}
 use native.Mathlib.Nat.{sub-zero}
 use native.Mathlib.Omega.{arith}
-use borrow.Author.Tests.{not-true, not-false}
-use lib.ListN.{length}
-use Rattle.ortho.specs.Ortho.{roundOf}
 use Rattle.ortho.proofs.Loops.{round-fail-1, round-fail-2, round-more, round-end, row_within}
 use Rattle.ortho.proofs.round.Goals as goal
 
@@ -17,7 +14,7 @@ pub overflow_mul-i : goal.overflow_mul-i
 overflow_mul-i c =
     let at = c in
     let s = at in
-    omega (arith, row_within s.args.d at.loop-i.i c.loop-i-test.true, s.well-formed)
+    omega (arith, row_within s.args.d at.loop-i.i c.loop-i-test.true)
 
 pub normalize_row-requires : goal.normalize_row-requires
 normalize_row-requires c =
@@ -30,7 +27,7 @@ returns-then-not-normalize_row c =
     let nr = c in
     let at = nr in
     let s = at.args in
-    sym at.loop-i.invariant.2 ∙ round-fail-1 s.d at.loop-i.i at.loop-i.out nr.loop-i-test.true nr.normalize_row.result nr.normalize_row.new.out nr.normalize_row.ensures (not-true _ c.if-not-normalize_row.true-raw)
+    sym at.loop-i.invariant.2 ∙ round-fail-1 s.d at.loop-i.i at.loop-i.out nr.loop-i-test.true nr.normalize_row.result nr.normalize_row.new.out nr.normalize_row.ensures (c.if-not-normalize_row.true)
 
 pub returns-then-not-rows : goal.returns-then-not-rows
 returns-then-not-rows c =
@@ -39,7 +36,7 @@ returns-then-not-rows c =
     let nr = one in
     let at = nr in
     let s = at.args in
-    sym at.loop-i.invariant.2 ∙ round-fail-2 s.d at.loop-i.i at.loop-i.out nr.loop-i-test.true nr.normalize_row.result nr.normalize_row.new.out nr.normalize_row.ensures rs.rows.result rs.rows.new.out rs.rows.ensures (not-false _ one.if-not-normalize_row.false-raw) (not-true _ c.if-not-rows.true-raw)
+    sym at.loop-i.invariant.2 ∙ round-fail-2 s.d at.loop-i.i at.loop-i.out nr.loop-i-test.true nr.normalize_row.result nr.normalize_row.new.out nr.normalize_row.ensures rs.rows.result rs.rows.new.out rs.rows.ensures (one.if-not-normalize_row.false) (c.if-not-rows.true)
 
 pub loop-i-preserved : goal.loop-i-preserved
 loop-i-preserved c =
@@ -50,7 +47,7 @@ loop-i-preserved c =
     let s = at.args in (
       rs.rows.auto.out ∙ nr.normalize_row.auto.out ∙ at.loop-i.invariant.0,
       search rules,
-      sym (round-more s.d at.loop-i.i at.loop-i.out nr.loop-i-test.true nr.normalize_row.result nr.normalize_row.new.out nr.normalize_row.ensures rs.rows.result rs.rows.new.out rs.rows.ensures (not-false _ one.if-not-normalize_row.false-raw) (not-false _ c.if-not-rows.false-raw)) ∙ at.loop-i.invariant.2,
+      sym (round-more s.d at.loop-i.i at.loop-i.out nr.loop-i-test.true nr.normalize_row.result nr.normalize_row.new.out nr.normalize_row.ensures rs.rows.result rs.rows.new.out rs.rows.ensures (one.if-not-normalize_row.false) (c.if-not-rows.false)) ∙ at.loop-i.invariant.2,
     )
 
 pub returns : goal.returns

@@ -1,12 +1,7 @@
-use borrow.Author.Rules.{rules}
 use Prim.Native.Nat.{◌-◌, ◌≤◌}
-use mathlib.Core.Path.{◌≡◌, refl, sym, ◌∙◌}
-use native.Mathlib.Nat.{sub-zero}
-use native.Mathlib.Omega.{arith}
-use borrow.Author.Tests.{not-true, not-false}
+use mathlib.Core.Path.{◌≡◌}
 use lib.ListN.{length}
 use Rattle.ortho.specs.Ortho.{roundOf}
-use Rattle.ortho.proofs.Loops.{round-fail-1, round-fail-2, round-more, round-end, row_within}
 use Rattle.ortho.proofs.round.Given as goal
 
 abbrev pub invariant-loop-i : goal.invariant-loop-i

@@ -1,11 +1,8 @@
 -- `ortho::rows` meets its contract. Assumes nothing.
 use borrow.Author.Rules.{rules}
-use Prim.Native.Nat.{◌+◌, ◌-◌, ◌*◌, ◌<◌, ◌≤◌}
-use mathlib.Core.Path.{◌≡◌, refl, sym, ◌∙◌}
+use Prim.Native.Nat.{◌-◌, ◌*◌}
+use mathlib.Core.Path.{refl, sym, ◌∙◌}
 use native.Mathlib.Omega.{arith}
-use borrow.Author.Tests.{not-true, not-false}
-use lib.ListN.{length}
-use Rattle.ortho.specs.Ortho.{rows_of}
 use Rattle.ortho.proofs.Loops.{rows_more, rows-fail, rows_end, row_before, row_within}
 use Rattle.ortho.proofs.rows.Goals as goal
 
@@ -19,7 +16,7 @@ pub overflow_mul-j : goal.overflow_mul-j
 overflow_mul-j c =
     let at = c in
     let s = at in
-    omega (arith, row_within s.args.d at.loop-j.j c.loop-j-test.true, s.well-formed)
+    omega (arith, row_within s.args.d at.loop-j.j c.loop-j-test.true)
 
 pub pair-requires : goal.pair-requires
 pair-requires c =
@@ -32,7 +29,7 @@ returns-then-not-pair c =
     let t = c in
     let at = t in
     let s = at.args in
-    sym at.loop-j.invariant.3 ∙ rows-fail s.d s.i at.loop-j.j at.loop-j.out (s.i * s.d) refl t.loop-j-test.true t.pair.result t.pair.new.out t.pair.ensures (not-true _ c.if-not-pair.true-raw)
+    sym at.loop-j.invariant.3 ∙ rows-fail s.d s.i at.loop-j.j at.loop-j.out (s.i * s.d) refl t.loop-j-test.true t.pair.result t.pair.new.out t.pair.ensures (c.if-not-pair.true)
 
 pub loop-j-preserved : goal.loop-j-preserved
 loop-j-preserved c =
@@ -42,7 +39,7 @@ loop-j-preserved c =
       t.pair.auto.out ∙ at.loop-j.invariant.0,
       search rules,
       omega (arith, at.loop-j.invariant.2),
-      sym (rows_more s.d s.i at.loop-j.j at.loop-j.out (s.i * s.d) refl t.loop-j-test.true t.pair.result t.pair.new.out t.pair.ensures (not-false _ c.if-not-pair.false-raw)) ∙ at.loop-j.invariant.3,
+      sym (rows_more s.d s.i at.loop-j.j at.loop-j.out (s.i * s.d) refl t.loop-j-test.true t.pair.result t.pair.new.out t.pair.ensures (c.if-not-pair.false)) ∙ at.loop-j.invariant.3,
     )
 
 pub returns : goal.returns

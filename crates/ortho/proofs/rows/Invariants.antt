@@ -1,11 +1,7 @@
-use borrow.Author.Rules.{rules}
-use Prim.Native.Nat.{◌+◌, ◌-◌, ◌*◌, ◌<◌, ◌≤◌}
-use mathlib.Core.Path.{◌≡◌, refl, sym, ◌∙◌}
-use native.Mathlib.Omega.{arith}
-use borrow.Author.Tests.{not-true, not-false}
+use Prim.Native.Nat.{◌+◌, ◌-◌, ◌<◌, ◌≤◌}
+use mathlib.Core.Path.{◌≡◌}
 use lib.ListN.{length}
 use Rattle.ortho.specs.Ortho.{rows_of}
-use Rattle.ortho.proofs.Loops.{rows_more, rows-fail, rows_end, row_before, row_within}
 use Rattle.ortho.proofs.rows.Given as goal
 
 abbrev pub invariant-loop-j : goal.invariant-loop-j

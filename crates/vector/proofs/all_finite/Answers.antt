@@ -1,11 +1,9 @@
 -- `vector::all_finite` meets its contract. Assumes nothing.
 use borrow.Author.Rules.{rules}
-use Prim.Native.Nat.{◌-◌, ◌≤◌}
-use mathlib.Core.Path.{◌≡◌, refl, sym, ◌∙◌}
+use Prim.Native.Nat.{◌-◌}
+use mathlib.Core.Path.{refl, sym, ◌∙◌}
 use native.Mathlib.Omega.{arith}
-use lib.ListN.{length, drop}
-use borrow.Author.Tests.{not-true, not-false}
-use Rattle.vector.specs.Finite.{is_finite, every}
+use Rattle.vector.specs.Finite.{is_finite}
 use Rattle.vector.proofs.Vectors.{every-yes, every-no, every-end}
 use Rattle.vector.proofs.all_finite.Goals as goal
 
@@ -14,11 +12,11 @@ loop-i-init c = (search rules, refl)
 
 pub returns-then-not-is_finite : goal.returns-then-not-is_finite
 returns-then-not-is_finite c =
-    sym (every-no is_finite c.args.vec.now c.loop-i.i (omega arith) (sym c.is_finite.ensures ∙ not-true _ c.if-not-is_finite.true-raw)) ∙ c.loop-i.invariant.1
+    sym (every-no is_finite c.args.vec.now c.loop-i.i (omega arith) (sym c.is_finite.ensures ∙ c.if-not-is_finite.true)) ∙ c.loop-i.invariant.1
 
 pub loop-i-preserved : goal.loop-i-preserved
 loop-i-preserved c =
-    (search rules, sym (every-yes is_finite c.args.vec.now c.loop-i.i (omega arith) (sym c.is_finite.ensures ∙ not-false _ c.if-not-is_finite.false-raw)) ∙ c.loop-i.invariant.1)
+    (search rules, sym (every-yes is_finite c.args.vec.now c.loop-i.i (omega arith) (sym c.is_finite.ensures ∙ c.if-not-is_finite.false)) ∙ c.loop-i.invariant.1)
 
 pub returns : goal.returns
 returns c = sym (every-end is_finite _ c.loop-i.i c.loop-i-test.false) ∙ c.loop-i.invariant.1

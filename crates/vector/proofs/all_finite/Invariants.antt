@@ -1,11 +1,7 @@
-use borrow.Author.Rules.{rules}
 use Prim.Native.Nat.{◌-◌, ◌≤◌}
-use mathlib.Core.Path.{◌≡◌, refl, sym, ◌∙◌}
-use native.Mathlib.Omega.{arith}
+use mathlib.Core.Path.{◌≡◌}
 use lib.ListN.{length, drop}
-use borrow.Author.Tests.{not-true, not-false}
 use Rattle.vector.specs.Finite.{is_finite, every}
-use Rattle.vector.proofs.Vectors.{every-yes, every-no, every-end}
 use Rattle.vector.proofs.all_finite.Given as goal
 
 abbrev pub invariant-loop-i : goal.invariant-loop-i

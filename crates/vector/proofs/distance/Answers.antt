@@ -3,7 +3,6 @@ use borrow.Author.Tests.{ne_eqb, eq-eqb}
 use mathlib.Core.Path.{refl, ◌∙◌, ap}
 use Rattle.sqrt.specs.RootOf.{root}
 use Rattle.vector.proofs.Answer.{said-value, said-refusal}
-use borrow.Author.Rules.{rules}
 use Rattle.vector.proofs.distance.Goals as goal
 
 pub returns-then-vec-other : goal.returns-then-vec-other

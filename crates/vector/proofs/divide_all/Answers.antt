@@ -1,16 +1,11 @@
 -- `vector::divide_all` meets its contract. Assumes nothing.
 use borrow.Author.Rules.{rules}
-use Prim.Native.Nat.{◌-◌, ◌≤◌}
-use mathlib.Core.Path.{◌≡◌, refl, sym, ◌∙◌}
+use mathlib.Core.Path.{refl, sym, ◌∙◌}
 use native.Mathlib.Omega.{arith}
-use mathlib.Core.List.{◌++◌, map}
-use lib.ListN.{length, take, drop, length-set}
-use lib.Ieee.{Float, binary32, div}
+use lib.ListN.{length-set}
 use Rattle.vector.proofs.Vectors.{map-step, map-end}
+use Rattle.vector.proofs.divide_all.Invariants.{by}
 use Rattle.vector.proofs.divide_all.Goals as goal
-
-abbrev by : Float → Float → Float
-by n x = div binary32 x n
 
 pub loop-i-init : goal.loop-i-init
 loop-i-init c = (refl, search rules, refl)

@@ -2,7 +2,6 @@
 use borrow.Author.Tests.{ne_eqb, eq-eqb}
 use mathlib.Core.Path.{refl}
 use Rattle.vector.proofs.Answer.{said-value, said-refusal}
-use borrow.Author.Rules.{rules}
 use Rattle.vector.proofs.dot_product.Goals as goal
 
 pub returns-then-vec-other : goal.returns-then-vec-other

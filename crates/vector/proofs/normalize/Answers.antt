@@ -1,21 +1,19 @@
 -- `vector::normalize` meets its contract. Assumes nothing.
--- what each way through the code has found, and what is promised then
 use mathlib.Core.Path.{◌≡◌, sym, ◌∙◌, ap}
 use mathlib.Core.Bool.{true, false}
 use mathlib.Core.List.{List}
-use borrow.Author.Tests.{not-true, not-false}
 use lib.Ieee.{Float, eq}
 use Rattle.sqrt.specs.RootOf.{root}
 use Rattle.vector.specs.Fold.{dotOf, zero32}
 use Rattle.vector.specs.Finite.{is_finite, allFinite}
 use Rattle.vector.specs.Norm.{Normal, normal, normOf, normNumber, normalized, divided_by, allFiniteBy}
-use borrow.Author.Rules.{rules}
 use Rattle.vector.proofs.normalize.Goals as goal
 
 norm-is : (xs : List Float) (d n : Float) → d ≡ dotOf xs xs → n ≡ root d → n ≡ normOf xs
 unfolding normOf
 norm-is xs d n p q = q ∙ ap root p
 
+-- what each way through the code has found, and what is promised then
 module _ (xs : List Float) where
   abbrev outcome : Normal
   outcome = normal (normNumber xs) (normalized xs)
@@ -44,20 +42,20 @@ module _ (xs : List Float) where
         accepted ys q e = simp (h, ← N, g, z, q, e)
 
 pub returns-then-not-all_finite : goal.returns-then-not-all_finite
-returns-then-not-all_finite c = not_finite c.args.vec.now (sym c.all_finite.ensures ∙ not-true _ c.if-not-all_finite.true-raw)
+returns-then-not-all_finite c = not_finite c.args.vec.now (sym c.all_finite.ensures ∙ c.if-not-all_finite.true)
 
 pub returns-then-not-is_finite : goal.returns-then-not-is_finite
 returns-then-not-is_finite c =
-    norm-not-finite c.args.vec.now (sym c.all_finite.ensures ∙ not-false _ c.if-not-all_finite.false-raw) _ (norm-is c.args.vec.now _ _ c.dot_of.ensures c.sqrt-norm.ensures) (sym c.is_finite.ensures ∙ not-true _ c.if-not-is_finite.true-raw)
+    norm-not-finite c.args.vec.now (sym c.all_finite.ensures ∙ c.if-not-all_finite.false) _ (norm-is c.args.vec.now _ _ c.dot_of.ensures c.sqrt-norm.ensures) (sym c.is_finite.ensures ∙ c.if-not-is_finite.true)
 
 pub returns-then-norm : goal.returns-then-norm
 returns-then-norm c =
-    norm-zero c.args.vec.now (sym c.all_finite.ensures ∙ not-false _ c.if-not-all_finite.false-raw) _ (norm-is c.args.vec.now _ _ c.dot_of.ensures c.sqrt-norm.ensures) (sym c.is_finite.ensures ∙ not-false _ c.if-not-is_finite.false-raw) c.if-norm.true
+    norm-zero c.args.vec.now (sym c.all_finite.ensures ∙ c.if-not-all_finite.false) _ (norm-is c.args.vec.now _ _ c.dot_of.ensures c.sqrt-norm.ensures) (sym c.is_finite.ensures ∙ c.if-not-is_finite.false) c.if-norm.true
 
 pub returns-then-not-quotients_finite : goal.returns-then-not-quotients_finite
 returns-then-not-quotients_finite c =
-    quotient-not-finite c.args.vec.now (sym c.all_finite.ensures ∙ not-false _ c.if-not-all_finite.false-raw) _ (norm-is c.args.vec.now _ _ c.dot_of.ensures c.sqrt-norm.ensures) (sym c.is_finite.ensures ∙ not-false _ c.if-not-is_finite.false-raw) c.if-norm.false (sym c.quotients_finite.ensures ∙ not-true _ c.if-not-quotients_finite.true-raw)
+    quotient-not-finite c.args.vec.now (sym c.all_finite.ensures ∙ c.if-not-all_finite.false) _ (norm-is c.args.vec.now _ _ c.dot_of.ensures c.sqrt-norm.ensures) (sym c.is_finite.ensures ∙ c.if-not-is_finite.false) c.if-norm.false (sym c.quotients_finite.ensures ∙ c.if-not-quotients_finite.true)
 
 pub returns : goal.returns
 returns c =
-    accepted c.args.vec.now (sym c.all_finite.ensures ∙ not-false _ c.if-not-all_finite.false-raw) _ (norm-is c.args.vec.now _ _ c.dot_of.ensures c.sqrt-norm.ensures) (sym c.is_finite.ensures ∙ not-false _ c.if-not-is_finite.false-raw) c.if-norm.false _ (sym c.quotients_finite.ensures ∙ not-false _ c.if-not-quotients_finite.false-raw) c.divide_all.ensures
+    accepted c.args.vec.now (sym c.all_finite.ensures ∙ c.if-not-all_finite.false) _ (norm-is c.args.vec.now _ _ c.dot_of.ensures c.sqrt-norm.ensures) (sym c.is_finite.ensures ∙ c.if-not-is_finite.false) c.if-norm.false _ (sym c.quotients_finite.ensures ∙ c.if-not-quotients_finite.false) c.divide_all.ensures

@@ -4,7 +4,6 @@ use mathlib.Core.Path.{◌∙◌}
 use native.Mathlib.Omega.{arith}
 use lib.ListN.{length}
 use Rattle.basis.proofs.Sides.{four-next}
-use borrow.Author.Rules.{rules}
 use Rattle.basis.proofs.inner.block.Goals as goal
 
 pub returns : goal.returns

@@ -1,11 +1,10 @@
 -- `basis::inner::dots_of_eight` meets its contract. Assumes nothing.
 use borrow.Author.Rules.{rules}
-use Prim.Native.Nat.{◌+◌, ◌-◌, ◌*◌, ◌≤◌}
-use mathlib.Core.Path.{◌≡◌, refl, sym, ◌∙◌}
+use Prim.Native.Nat.{◌+◌, ◌-◌, ◌*◌}
+use mathlib.Core.Path.{refl, sym, ◌∙◌}
 use native.Mathlib.Omega.{arith}
 use native.Mathlib.Nat.{add-zero}
-use lib.ListN.{length, drop}
-use Rattle.basis.specs.Four.{foldFour, dotFour}
+use lib.ListN.{length}
 use Rattle.basis.proofs.Sides.{four-start, four-next, four-end}
 use Rattle.basis.proofs.inner.dots_of_eight.Goals as goal
 

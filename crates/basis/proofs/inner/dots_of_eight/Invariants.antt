@@ -1,11 +1,7 @@
-use borrow.Author.Rules.{rules}
 use Prim.Native.Nat.{◌+◌, ◌-◌, ◌*◌, ◌≤◌}
-use mathlib.Core.Path.{◌≡◌, refl, sym, ◌∙◌}
-use native.Mathlib.Omega.{arith}
-use native.Mathlib.Nat.{add-zero}
+use mathlib.Core.Path.{◌≡◌}
 use lib.ListN.{length, drop}
 use Rattle.basis.specs.Four.{foldFour, dotFour}
-use Rattle.basis.proofs.Sides.{four-start, four-next, four-end}
 use Rattle.basis.proofs.inner.dots_of_eight.Given as goal
 
 abbrev pub invariant-loop-i : goal.invariant-loop-i

@@ -1,12 +1,10 @@
 -- `basis::inner::project` meets its contract. Assumes nothing.
 use borrow.Author.Rules.{rules}
-use Prim.Native.Nat.{◌+◌, ◌-◌, ◌≤◌}
-use mathlib.Core.Path.{◌≡◌, sym, ◌∙◌}
-use mathlib.Core.List.{◌++◌}
+use Prim.Native.Nat.{◌-◌}
+use mathlib.Core.Path.{sym, ◌∙◌}
 use native.Mathlib.Nat.{add-sub_cancel_left}
 use native.Mathlib.Omega.{arith}
-use lib.ListN.{length, take, length-set}
-use Rattle.basis.specs.Project.{rows_from, projected}
+use lib.ListN.{length, length-set}
 use Rattle.basis.proofs.Sides.{rows-within, project-step, project-end}
 use Rattle.basis.proofs.inner.project.Goals as goal
 
@@ -17,16 +15,16 @@ pub loop-r-init : goal.loop-r-init
 loop-r-init c = (c.rows_by_four-r.auto.work ∙ (c.rows_by_eight-eights.auto.work ∙ c.requires.room), c.rows_by_four-r.ensures.0, c.rows_by_four-r.ensures.1 ∙ c.rows_by_eight-eights.ensures.1)
 
 pub overflow_mul-a : goal.overflow_mul-a
-overflow_mul-a c = omega (arith, rows-within (length c.args.target.now) c.loop-r.r 1 (omega arith), c.well-formed, c.requires.rows)
+overflow_mul-a c = omega (arith, rows-within (length c.args.target.now) c.loop-r.r 1 (omega arith), c.requires.rows)
 
 pub overflow_add-e : goal.overflow_add-e
-overflow_add-e c = omega (arith, rows-within (length c.args.target.now) c.loop-r.r 1 (omega arith), c.well-formed, c.requires.rows)
+overflow_add-e c = omega (arith, rows-within (length c.args.target.now) c.loop-r.r 1 (omega arith), c.requires.rows)
 
 pub offset_bounds-basis-a : goal.offset_bounds-basis-a
-offset_bounds-basis-a c = omega (arith, rows-within (length c.args.target.now) c.loop-r.r 1 (omega arith), c.well-formed, c.requires.rows)
+offset_bounds-basis-a c = omega (arith, rows-within (length c.args.target.now) c.loop-r.r 1 (omega arith), c.requires.rows)
 
 pub slice_bounds-dot_of-end : goal.slice_bounds-dot_of-end
-slice_bounds-dot_of-end c = omega (arith, rows-within (length c.args.target.now) c.loop-r.r 1 (omega arith), c.well-formed, c.requires.rows)
+slice_bounds-dot_of-end c = omega (arith, rows-within (length c.args.target.now) c.loop-r.r 1 (omega arith), c.requires.rows)
 
 pub bounds-work-r : goal.bounds-work-r
 bounds-work-r c = omega (arith, c.loop-r.invariant.0)

@@ -1,12 +1,8 @@
-use borrow.Author.Rules.{rules}
 use Prim.Native.Nat.{◌+◌, ◌-◌, ◌≤◌}
-use mathlib.Core.Path.{◌≡◌, sym, ◌∙◌}
+use mathlib.Core.Path.{◌≡◌}
 use mathlib.Core.List.{◌++◌}
-use native.Mathlib.Nat.{add-sub_cancel_left}
-use native.Mathlib.Omega.{arith}
-use lib.ListN.{length, take, length-set}
+use lib.ListN.{length, take}
 use Rattle.basis.specs.Project.{rows_from, projected}
-use Rattle.basis.proofs.Sides.{rows-within, project-step, project-end}
 use Rattle.basis.proofs.inner.project.Given as goal
 
 abbrev pub invariant-loop-r : goal.invariant-loop-r

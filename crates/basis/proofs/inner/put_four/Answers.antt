@@ -1,7 +1,6 @@
 -- `basis::inner::put_four` meets its contract. Assumes nothing.
 use native.Mathlib.Omega.{arith}
 use lib.ListN.{length-set}
-use borrow.Author.Rules.{rules}
 use Rattle.basis.proofs.inner.put_four.Goals as goal
 
 pub bounds-work-r-2 : goal.bounds-work-r-2

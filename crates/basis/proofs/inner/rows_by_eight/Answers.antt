@@ -1,11 +1,9 @@
 -- `basis::inner::rows_by_eight` meets its contract. Assumes nothing.
 use borrow.Author.Rules.{rules}
-use Prim.Native.Nat.{◌+◌, ◌-◌, ◌≤◌}
-use mathlib.Core.Path.{◌≡◌, ◌∙◌}
-use mathlib.Core.List.{◌++◌}
+use Prim.Native.Nat.{◌-◌}
+use mathlib.Core.Path.{◌∙◌}
 use native.Mathlib.Omega.{arith}
-use lib.ListN.{length, take}
-use Rattle.basis.specs.Project.{rows_from, projected}
+use lib.ListN.{length}
 use Rattle.basis.proofs.Sides.{rows-within, project-start, project-eight}
 use Rattle.basis.proofs.inner.rows_by_eight.Goals as goal
 
@@ -13,10 +11,10 @@ pub loop-r-init : goal.loop-r-init
 loop-r-init c = (c.requires.room, search rules, project-start c.args.basis.now c.args.target.now c.args.work.now)
 
 pub overflow_mul-r : goal.overflow_mul-r
-overflow_mul-r c = omega (arith, rows-within (length c.args.target.now) c.loop-r.r 8 (omega arith), c.well-formed, c.requires.rows)
+overflow_mul-r c = omega (arith, rows-within (length c.args.target.now) c.loop-r.r 8 (omega arith), c.requires.rows)
 
 pub dots_of_eight-q-requires : goal.dots_of_eight-q-requires
-dots_of_eight-q-requires c = omega (arith, rows-within (length c.args.target.now) c.loop-r.r 8 (omega arith), c.well-formed, c.requires.rows)
+dots_of_eight-q-requires c = omega (arith, rows-within (length c.args.target.now) c.loop-r.r 8 (omega arith), c.requires.rows)
 
 pub put_four-requires : goal.put_four-requires
 put_four-requires c = omega (arith, c.requires.room)

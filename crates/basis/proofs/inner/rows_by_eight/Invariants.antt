@@ -1,11 +1,8 @@
-use borrow.Author.Rules.{rules}
 use Prim.Native.Nat.{◌+◌, ◌-◌, ◌≤◌}
-use mathlib.Core.Path.{◌≡◌, ◌∙◌}
+use mathlib.Core.Path.{◌≡◌}
 use mathlib.Core.List.{◌++◌}
-use native.Mathlib.Omega.{arith}
 use lib.ListN.{length, take}
 use Rattle.basis.specs.Project.{rows_from, projected}
-use Rattle.basis.proofs.Sides.{rows-within, project-start, project-eight}
 use Rattle.basis.proofs.inner.rows_by_eight.Given as goal
 
 abbrev pub invariant-loop-r : goal.invariant-loop-r

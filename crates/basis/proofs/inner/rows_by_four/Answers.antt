@@ -1,11 +1,9 @@
 -- `basis::inner::rows_by_four` meets its contract. Assumes nothing.
 use borrow.Author.Rules.{rules}
-use Prim.Native.Nat.{◌+◌, ◌-◌, ◌≤◌}
-use mathlib.Core.Path.{◌≡◌, refl, ◌∙◌}
-use mathlib.Core.List.{◌++◌}
+use Prim.Native.Nat.{◌-◌}
+use mathlib.Core.Path.{refl, ◌∙◌}
 use native.Mathlib.Omega.{arith}
-use lib.ListN.{length, take}
-use Rattle.basis.specs.Project.{rows_from}
+use lib.ListN.{length}
 use Rattle.basis.proofs.Sides.{rows-within, project-four}
 use Rattle.basis.proofs.inner.rows_by_four.Goals as goal
 
@@ -13,10 +11,10 @@ pub loop-r-init : goal.loop-r-init
 loop-r-init c = (c.requires.0.room, search rules, refl)
 
 pub overflow_mul-r : goal.overflow_mul-r
-overflow_mul-r c = omega (arith, rows-within (length c.args.target.now) c.loop-r.r 4 (omega arith), c.well-formed, c.requires.0.rows)
+overflow_mul-r c = omega (arith, rows-within (length c.args.target.now) c.loop-r.r 4 (omega arith), c.requires.0.rows)
 
 pub dots_of_four-q-requires : goal.dots_of_four-q-requires
-dots_of_four-q-requires c = omega (arith, rows-within (length c.args.target.now) c.loop-r.r 4 (omega arith), c.well-formed, c.requires.0.rows)
+dots_of_four-q-requires c = omega (arith, rows-within (length c.args.target.now) c.loop-r.r 4 (omega arith), c.requires.0.rows)
 
 pub put_four-requires : goal.put_four-requires
 put_four-requires c = omega (arith, c.requires.0.room)

@@ -1,5 +1,4 @@
 -- `candidates::inner::gather` meets its contract: the layers so far, and the unions of the bases that are left, make the whole layers. Assumes nothing.
--- the next basis is within the bases, and its face sets within the face sets
 use borrow.Author.Rules.{rules}
 use native.Mathlib.Omega.{arith}
 use native.Mathlib.Nat.{mul-le-mul, le_refl}
@@ -8,13 +7,12 @@ use mathlib.Core.Path.{◌≡◌, refl, ◌∙◌, ap}
 use mathlib.Core.Bool.{true}
 use lib.ListN.{length}
 use Rattle.index_memory.proofs.Places.{part_end, part-long}
-use Rattle.counting_bitmap.specs.Layers.{empty, mergedAll, droppedAll}
-use Rattle.basis.specs.Bases.{projectionsFinite}
+use Rattle.counting_bitmap.specs.Layers.{empty}
 use Rattle.basis.proofs.Bases.{finite-none, finite-more, finite-no}
-use Rattle.candidates.specs.Gathering.{Query, queryOf, unionsFrom, layersOf, droppedOf}
+use Rattle.candidates.specs.Gathering.{Query, queryOf, layersOf, droppedOf}
 use Rattle.candidates.proofs.Bases.{times-by, was-finite, was-not, one_answer, one-layers, one-dropped, merged-more, dropped-more, gather-stopped, gather-ended}
 use Rattle.candidates.proofs.inner.gather.Goals as goal
-use Rattle.candidates.proofs.inner.gather.Tie as tie
+use Rattle.candidates.proofs.inner.gather.Goals.{In-loop-b}
 
 pub overflow_mul-square : goal.overflow_mul-square
 overflow_mul-square c = omega (arith, mul-le-mul c.requires.d-high c.requires.d-high)
@@ -30,32 +28,33 @@ unfolding layersOf droppedOf
 loop-b-init c =
     let a = c.args in
     let z : a.n - 0 ≡ a.n = omega arith in
-    let e : c.clear.new.set ≡ empty (a.n * length a.set.now) = c.clear.ensures ∙ ap empty c.requires.layers in
-    (search rules, omega arith, omega arith, refl, c.clear.auto.set ∙ c.requires.layers, refl, search rules, finite-none _ _ _, rw (z, e), rw (z, e) (omega arith))
+    let e : c.clear.new.a ≡ empty (a.n * length a.set.now) = c.clear.ensures ∙ ap empty c.requires.layers in
+    (search rules, omega arith, omega arith, refl, c.clear.auto.a ∙ c.requires.layers, refl, search rules, finite-none _ _ _, rw (z, e), rw (z, e) (omega arith))
 
-basis-end : (c : tie.In-loop-b invariant-loop decreases-loop) → c.loop-b.p + length c.args.target.now * length c.args.target.now ≤ length c.args.bases.now
+-- the next basis is within the bases, and its face sets within the face sets
+basis-end : (c : In-loop-b) → c.loop-b.p + length c.args.target.now * length c.args.target.now ≤ length c.args.bases.now
 basis-end c = part_end c.loop-b.b c.args.n (length c.args.target.now * length c.args.target.now) c.loop-b.p c.args.bases.now c.loop-b-test.true c.loop-b.invariant.1 c.requires.bases
 
-faces-end : (c : tie.In-loop-b invariant-loop decreases-loop) → c.loop-b.f + 2 * length c.args.target.now * length c.args.set.now ≤ length c.args.faces.now
+faces-end : (c : In-loop-b) → c.loop-b.f + 2 * length c.args.target.now * length c.args.set.now ≤ length c.args.faces.now
 faces-end c = part_end c.loop-b.b c.args.n (2 * length c.args.target.now * length c.args.set.now) c.loop-b.f c.args.faces.now c.loop-b-test.true c.loop-b.invariant.2 c.requires.faces
 
 pub overflow_add-p : goal.overflow_add-p
-overflow_add-p c = omega (arith, basis-end c, c.well-formed)
+overflow_add-p c = omega (arith, basis-end (goal.at.overflow_add-p c).In-loop-b)
 
 pub offset_bounds-bases-p : goal.offset_bounds-bases-p
-offset_bounds-bases-p c = omega (arith, basis-end c, c.well-formed)
+offset_bounds-bases-p c = omega (arith, basis-end (goal.at.offset_bounds-bases-p c).In-loop-b)
 
 pub slice_bounds-gather_basis-end : goal.slice_bounds-gather_basis-end
-slice_bounds-gather_basis-end c = omega (arith, basis-end c)
+slice_bounds-gather_basis-end c = omega (arith, basis-end (goal.at.slice_bounds-gather_basis-end c).In-loop-b)
 
 pub overflow_add-f : goal.overflow_add-f
-overflow_add-f c = omega (arith, faces-end c, c.well-formed)
+overflow_add-f c = omega (arith, faces-end (goal.at.overflow_add-f c).In-loop-b)
 
 pub offset_bounds-faces-f : goal.offset_bounds-faces-f
-offset_bounds-faces-f c = omega (arith, faces-end c, c.well-formed)
+offset_bounds-faces-f c = omega (arith, faces-end (goal.at.offset_bounds-faces-f c).In-loop-b)
 
 pub slice_bounds-gather_basis-end-in-loop-b : goal.slice_bounds-gather_basis-end-in-loop-b
-slice_bounds-gather_basis-end-in-loop-b c = omega (arith, faces-end c)
+slice_bounds-gather_basis-end-in-loop-b c = omega (arith, faces-end (goal.at.slice_bounds-gather_basis-end-in-loop-b c).In-loop-b)
 
 pub gather_basis-one-requires : goal.gather_basis-one-requires
 gather_basis-one-requires c =
@@ -79,17 +78,17 @@ returns-then-one-ne0 c =
     let l = c.loop-b in
     let g = c.gather_basis-one in
     let q : Query = queryOf a.bases.now a.faces.now a.target.now (length a.set.now) a.picks in
-    let ans = one_answer q a.n l.b l.p l.f (length l.set) l.layers g.new.1.1.1.1.0 g.result l.invariant.1 l.invariant.2 l.invariant.5 g.ensures in
-    gather-stopped q a.n g.new.1.1.1.1.0 (finite-no _ _ _ a.n l.b c.loop-b-test.true (was-not _ _ ans c.if-one-ne0.true))
+    let ans = one_answer q a.n l.b l.p l.f (length l.set) l.layers g.new.layers g.result l.invariant.1 l.invariant.2 l.invariant.5 g.ensures in
+    gather-stopped q a.n g.new.layers (finite-no _ _ _ a.n l.b c.loop-b-test.true (was-not _ _ ans c.if-one-ne0.true))
 
 pub overflow_add-total : goal.overflow_add-total
 overflow_add-total c = omega (arith, c.gather_basis-one.ensures.few, c.loop-b.invariant.6, c.loop-b.invariant.0, c.loop-b-test.true, c.requires.n-high)
 
 pub overflow_add-p-in-loop-b : goal.overflow_add-p-in-loop-b
-overflow_add-p-in-loop-b c = omega (arith, basis-end c, c.well-formed)
+overflow_add-p-in-loop-b c = omega (arith, basis-end (goal.at.overflow_add-p-in-loop-b c).In-loop-b)
 
 pub overflow_add-f-in-loop-b : goal.overflow_add-f-in-loop-b
-overflow_add-f-in-loop-b c = omega (arith, faces-end c, c.well-formed)
+overflow_add-f-in-loop-b c = omega (arith, faces-end (goal.at.overflow_add-f-in-loop-b c).In-loop-b)
 
 pub loop-b-preserved : goal.loop-b-preserved
 loop-b-preserved c =
@@ -97,7 +96,7 @@ loop-b-preserved c =
     let l = c.loop-b in
     let g = c.gather_basis-one in
     let q : Query = queryOf a.bases.now a.faces.now a.target.now (length a.set.now) a.picks in
-    let ls' = g.new.1.1.1.1.0 in
+    let ls' = g.new.layers in
     let ok = c.if-one-ne0.false in
     let ans = one_answer q a.n l.b l.p l.f (length l.set) l.layers ls' g.result l.invariant.1 l.invariant.2 l.invariant.5 g.ensures in
     let lay = one-layers q a.n l.b l.p l.f (length l.set) l.layers ls' g.result l.invariant.1 l.invariant.2 l.invariant.5 g.ensures ok in
@@ -108,9 +107,9 @@ loop-b-preserved c =
       omega (arith, c.loop-b-test.true),
       omega (arith, l.invariant.1),
       omega (arith, l.invariant.2),
-      g.auto.1.1.1.0 ∙ l.invariant.3,
-      g.auto.1.1.1.1.0 ∙ l.invariant.4,
-      g.auto.1.1.1.1.1.0 ∙ l.invariant.5,
+      g.auto.work ∙ l.invariant.3,
+      g.auto.layers ∙ l.invariant.4,
+      g.auto.set ∙ l.invariant.5,
       omega (arith, g.ensures.few, l.invariant.6),
       fin,
       mm ∙ l.invariant.8,

@@ -1,16 +1,10 @@
-use borrow.Author.Rules.{rules}
-use native.Mathlib.Omega.{arith}
-use native.Mathlib.Nat.{mul-le-mul, le_refl}
 use Prim.Native.Nat.{◌≤◌, ◌-◌, ◌*◌, ◌+◌}
-use mathlib.Core.Path.{◌≡◌, refl, ◌∙◌, ap}
+use mathlib.Core.Path.{◌≡◌}
 use mathlib.Core.Bool.{true}
 use lib.ListN.{length}
-use Rattle.index_memory.proofs.Places.{part_end, part-long}
-use Rattle.counting_bitmap.specs.Layers.{empty, mergedAll, droppedAll}
+use Rattle.counting_bitmap.specs.Layers.{mergedAll, droppedAll}
 use Rattle.basis.specs.Bases.{projectionsFinite}
-use Rattle.basis.proofs.Bases.{finite-none, finite-more, finite-no}
-use Rattle.candidates.specs.Gathering.{Query, queryOf, unionsFrom, layersOf, droppedOf}
-use Rattle.candidates.proofs.Bases.{times-by, was-finite, was-not, one_answer, one-layers, one-dropped, merged-more, dropped-more, gather-stopped, gather-ended}
+use Rattle.candidates.specs.Gathering.{queryOf, unionsFrom, layersOf, droppedOf}
 use Rattle.candidates.proofs.inner.gather.Given as goal
 
 abbrev pub invariant-loop-b : goal.invariant-loop-b

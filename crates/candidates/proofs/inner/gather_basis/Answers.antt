@@ -1,36 +1,36 @@
 -- `candidates::inner::gather_basis` meets its contract. Assumes nothing.
 use native.Mathlib.Omega.{arith}
-use borrow.Author.Tests.{not-true, not-false}
 use Prim.Native.Nat.{ℕ, ◌*◌}
-use mathlib.Core.Path.{◌≡◌, refl, ◌∙◌, ap, sym}
+use mathlib.Core.Path.{◌≡◌, refl, ◌∙◌, ap, sym, subst}
 use lib.ListN.{length}
 use Rattle.bitmaps.specs.Words.{size}
 use Rattle.counting_bitmap.specs.Layers.{merged, fallen}
 use Rattle.vector.specs.Finite.{allFinite}
+use Rattle.bitmaps.proofs.Digits.{Words}
+use Rattle.candidates.proofs.Words.{words-fallen, words-of-union}
 use Rattle.candidates.proofs.Bases.{times-by, union-is, few-of, basis-bad, basis-good}
-use borrow.Author.Rules.{rules}
 use Rattle.candidates.proofs.inner.gather_basis.Goals as goal
 
 pub returns-then-not-all_finite : goal.returns-then-not-all_finite
 returns-then-not-all_finite c =
     let a = c.args in
     basis-bad a.n (length a.set.now) a.picks a.basis.now a.faces.now a.target.now a.layers.now _
-    (ap allFinite (sym c.project.ensures) ∙ sym c.all_finite.ensures ∙ not-true _ c.if-not-all_finite.true-raw)
+    (ap allFinite (sym c.project.ensures) ∙ sym c.all_finite.ensures ∙ c.if-not-all_finite.true)
 
 pub spill_into-requires : goal.spill_into-requires
 spill_into-requires c =
     let a = c.args in
     let long = c.project.auto.work ∙ c.requires.work in
     record {
-      w-high = omega (arith, c.requires.w-high, c.clear.auto.set);
-      faces = times-by (length a.faces.now) (2 * length a.target.now) (length a.set.now) (2 * length c.project.new.work) (length c.clear.new.set) c.requires.faces (ap (λ (d : ℕ). 2 * d) long) c.clear.auto.set;
-      facable = record { some = omega (arith, c.requires.d-low, long); few = omega (arith, c.requires.d-high, long); finite = sym c.all_finite.ensures ∙ not-false _ c.if-not-all_finite.false-raw };
+      w-high = omega (arith, c.requires.w-high, c.clear.auto.a);
+      faces = times-by (length a.faces.now) (2 * length a.target.now) (length a.set.now) (2 * length c.project.new.work) (length c.clear.new.a) c.requires.faces (ap (λ (d : ℕ). 2 * d) long) c.clear.auto.a;
+      facable = record { some = omega (arith, c.requires.d-low, long); few = omega (arith, c.requires.d-high, long); finite = sym c.all_finite.ensures ∙ c.if-not-all_finite.false };
     }
 
 pub merge-requires : goal.merge-requires
 merge-requires c =
     let a = c.args in (
-      times-by (length a.layers.now) a.n (length a.set.now) a.n (length c.spill_into.new.set) c.requires.layers refl (c.spill_into.auto.set ∙ c.clear.auto.set),
+      times-by (length a.layers.now) a.n (length a.set.now) a.n (length c.spill_into.new.set) c.requires.layers refl (c.spill_into.auto.set ∙ c.clear.auto.a),
       refl,
     )
 
@@ -39,10 +39,11 @@ returns c =
     let a = c.args in
     let w = length a.set.now in
     let u = c.spill_into.new.set in
-    let same : length c.spill_into.new.set ≡ w = c.spill_into.auto.set ∙ c.clear.auto.set in
-    let fin = ap allFinite (sym c.project.ensures) ∙ sym c.all_finite.ensures ∙ not-false _ c.if-not-all_finite.false-raw in
-    let un = union-is a.picks w a.faces.now _ c.project.new.work c.clear.new.set u c.clear.ensures c.project.ensures c.spill_into.ensures in
-    let few = few-of c.count-dropped.result c.merge.new.1.1.1.0 (λ i. (c.slice_known-9-1.given i).fits) (omega (arith, c.requires.w-high, c.merge.auto.1.1.1.0, same)) c.count-dropped.ensures in
+    let same : length c.spill_into.new.set ≡ w = c.spill_into.auto.set ∙ c.clear.auto.a in
+    let fin = ap allFinite (sym c.project.ensures) ∙ sym c.all_finite.ensures ∙ c.if-not-all_finite.false in
+    let un = union-is a.picks w a.faces.now _ c.project.new.work c.clear.new.a u c.clear.ensures c.project.ensures c.spill_into.ensures in
+    let words = words-fallen a.n (length u) a.layers.now u (rw same c.requires.layers) refl (subst Words (sym un) (words-of-union a.picks w a.faces.now _ (λ i. (c.type_inv.faces i).fits))) in
+    let few = few-of c.count-dropped.result c.merge.new.cur (subst Words (sym c.merge.ensures.1) words) (omega (arith, c.requires.w-high, c.merge.auto.cur, same)) c.count-dropped.ensures in
     basis-good a.n w a.picks a.basis.now a.faces.now a.target.now a.layers.now c.merge.new.layers c.count-dropped.result u fin few un
     (c.merge.ensures.0 ∙ ap (λ (k : ℕ). merged a.n k a.layers.now u) same)
     (c.count-dropped.ensures ∙ ap size (c.merge.ensures.1 ∙ ap (λ (k : ℕ). fallen a.n k a.layers.now u) same))

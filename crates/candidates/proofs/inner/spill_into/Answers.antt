@@ -1,6 +1,4 @@
 -- `candidates::inner::spill_into` meets its contract: what is left to pick gives the whole set. Assumes nothing.
--- the slot is one of the basis's
--- its face set is within the basis's
 use borrow.Author.Rules.{rules}
 use native.Mathlib.Omega.{arith}
 use Prim.Native.Nat.{◌≤◌, ◌<◌, ◌-◌, ◌*◌, ◌+◌}
@@ -9,12 +7,10 @@ use mathlib.Core.Bool.{true}
 use lib.ListN.{length, take, drop}
 use Rattle.index_memory.proofs.Places.{part_end, part-long}
 use Rattle.vector.specs.Finite.{allFinite}
-use Rattle.faces.specs.Slots.{slots}
 use Rattle.faces.proofs.Slots.{finite-picked}
-use Rattle.candidates.specs.Gathering.{joined}
 use Rattle.candidates.proofs.Spills.{spill-turn, spill-end}
 use Rattle.candidates.proofs.inner.spill_into.Goals as goal
-use Rattle.candidates.proofs.inner.spill_into.Tie as tie
+use Rattle.candidates.proofs.inner.spill_into.Goals.{After-pick-slot}
 
 pub loop-i-init : goal.loop-i-init
 loop-i-init c =
@@ -24,29 +20,31 @@ loop-i-init c =
 pub pick-slot-requires : goal.pick-slot-requires
 pick-slot-requires c = record { some = omega (arith, c.requires.facable.some, c.loop-i.invariant.1); few = omega (arith, c.requires.facable.few, c.loop-i.invariant.1); finite = c.loop-i.invariant.3 }
 
-slot-low : (c : tie.After-pick-slot invariant-loop decreases-loop) → c.pick-slot.result < 2 * length c.args.work.now
+-- the slot is one of the basis's
+slot-low : (c : After-pick-slot) → c.pick-slot.result < 2 * length c.args.work.now
 slot-low c = omega (arith, c.pick-slot.ensures.1, c.loop-i.invariant.1)
 
-slot-end : (c : tie.After-pick-slot invariant-loop decreases-loop) → c.pick-slot.result * length c.args.set.now + length c.args.set.now ≤ length c.args.faces.now
+-- its face set is within the basis's
+slot-end : (c : After-pick-slot) → c.pick-slot.result * length c.args.set.now + length c.args.set.now ≤ length c.args.faces.now
 slot-end c = part_end c.pick-slot.result (2 * length c.args.work.now) (length c.args.set.now) (c.pick-slot.result * length c.args.set.now) c.args.faces.now (slot-low c) refl c.requires.faces
 
-slot-long : (c : tie.After-pick-slot invariant-loop decreases-loop) → length (take (c.pick-slot.result * length c.args.set.now + length c.args.set.now - c.pick-slot.result * length c.args.set.now) (drop (c.pick-slot.result * length c.args.set.now) c.args.faces.now)) ≡ length c.args.set.now
+slot-long : (c : After-pick-slot) → length (take (c.pick-slot.result * length c.args.set.now + length c.args.set.now - c.pick-slot.result * length c.args.set.now) (drop (c.pick-slot.result * length c.args.set.now) c.args.faces.now)) ≡ length c.args.set.now
 slot-long c = part-long c.pick-slot.result (2 * length c.args.work.now) (length c.args.set.now) (c.pick-slot.result * length c.args.set.now) c.args.faces.now (slot-low c) refl c.requires.faces
 
 pub overflow_mul-a : goal.overflow_mul-a
-overflow_mul-a c = omega (arith, slot-end c, c.well-formed)
+overflow_mul-a c = omega (arith, slot-end (goal.at.overflow_mul-a c).After-pick-slot)
 
 pub overflow_add-e : goal.overflow_add-e
-overflow_add-e c = omega (arith, slot-end c, c.well-formed)
+overflow_add-e c = omega (arith, slot-end (goal.at.overflow_add-e c).After-pick-slot)
 
 pub offset_bounds-faces-a : goal.offset_bounds-faces-a
-offset_bounds-faces-a c = omega (arith, slot-end c, c.well-formed)
+offset_bounds-faces-a c = omega (arith, slot-end (goal.at.offset_bounds-faces-a c).After-pick-slot)
 
 pub slice_bounds-or-end : goal.slice_bounds-or-end
-slice_bounds-or-end c = omega (arith, slot-end c)
+slice_bounds-or-end c = omega (arith, slot-end (goal.at.slice_bounds-or-end c).After-pick-slot)
 
 pub or-requires : goal.or-requires
-or-requires c = omega (arith, slot-long c, c.loop-i.invariant.2)
+or-requires c = omega (arith, slot-long (goal.at.or-requires c).After-pick-slot, c.loop-i.invariant.2)
 
 pub loop-i-preserved : goal.loop-i-preserved
 loop-i-preserved c =

@@ -1,15 +1,10 @@
-use borrow.Author.Rules.{rules}
-use native.Mathlib.Omega.{arith}
-use Prim.Native.Nat.{◌≤◌, ◌<◌, ◌-◌, ◌*◌, ◌+◌}
-use mathlib.Core.Path.{◌≡◌, refl, ◌∙◌, ap, sym}
+use Prim.Native.Nat.{◌≤◌, ◌-◌}
+use mathlib.Core.Path.{◌≡◌}
 use mathlib.Core.Bool.{true}
-use lib.ListN.{length, take, drop}
-use Rattle.index_memory.proofs.Places.{part_end, part-long}
+use lib.ListN.{length}
 use Rattle.vector.specs.Finite.{allFinite}
 use Rattle.faces.specs.Slots.{slots}
-use Rattle.faces.proofs.Slots.{finite-picked}
 use Rattle.candidates.specs.Gathering.{joined}
-use Rattle.candidates.proofs.Spills.{spill-turn, spill-end}
 use Rattle.candidates.proofs.inner.spill_into.Given as goal
 
 abbrev pub invariant-loop-i : goal.invariant-loop-i

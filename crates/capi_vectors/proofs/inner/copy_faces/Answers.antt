@@ -1,5 +1,5 @@
 -- `capi_vectors::inner::copy_faces` meets its contract: after i turns the first i places are copied. Assumes nothing.
-use Prim.Native.Nat.{ℕ, ◌-◌, ◌≤◌, ◌<◌}
+use Prim.Native.Nat.{ℕ, ◌-◌, ◌<◌}
 use mathlib.Core.Path.{◌≡◌, ◌∙◌, ap, refl}
 use native.Mathlib.Omega.{arith}
 use borrow.Author.Rules.{rules}
@@ -15,19 +15,19 @@ pub loop-i-init : goal.loop-i-init
 loop-i-init c = (search rules, refl, refl)
 
 pub offset_bounds-from-i : goal.offset_bounds-from-i
-offset_bounds-from-i c = omega (arith, c.well-formed, c.requires.0)
+offset_bounds-from-i c = omega (arith, c.requires.0)
 
 pub bounds-from-i : goal.bounds-from-i
 bounds-from-i c = omega (arith, c.requires.0)
 
 pub offset_bounds-to-i : goal.offset_bounds-to-i
-offset_bounds-to-i c = omega (arith, c.well-formed, c.requires.1)
+offset_bounds-to-i c = omega (arith, c.requires.1)
 
 pub bounds-to-i : goal.bounds-to-i
 bounds-to-i c = omega (arith, c.requires.1)
 
 pub overflow_add-i : goal.overflow_add-i
-overflow_add-i c = omega (arith, c.well-formed, c.requires.0)
+overflow_add-i c = omega (arith, c.requires.0)
 
 pub loop-i-smaller : goal.loop-i-smaller
 loop-i-smaller c = omega arith

@@ -13,8 +13,8 @@ use Rattle.capi_vectors.proofs.inner.put_face.Goals as goal
 
 pub returns-in-Face : goal.returns-in-Face
 returns-in-Face c =
-    let z : to_z w32 (of_z w32 c.answer-1.given.0.0) ≡ c.answer-1.given.0.0 = search rules in
-    ap (λ (l : List ℤ). single 0 l) (one_place c.args.out.now _ c.requires ∙ ap (λ (x : ℤ). x ∷ []) z) ∙ sym (ap (λ (a : FaceAnswer). facePut a c.args.out.now) c.answer-1.given.1)
+    let z : to_z w32 (of_z w32 c.in-Face.f) ≡ c.in-Face.f = search rules in
+    ap (λ (l : List ℤ). single 0 l) (one_place c.args.out.now _ c.requires ∙ ap (λ (x : ℤ). x ∷ []) z) ∙ sym (ap (λ (a : FaceAnswer). facePut a c.args.out.now) c.in-Face.is)
 
 pub returns-in-Refused : goal.returns-in-Refused
-returns-in-Refused c = sym (ap (λ (a : FaceAnswer). facePut a c.args.out.now) c.answer-in-Refused-1.given.1)
+returns-in-Refused c = sym (ap (λ (a : FaceAnswer). facePut a c.args.out.now) c.in-Refused.is)

@@ -1,5 +1,4 @@
 -- `capi_vectors::inner::put_number` meets its contract. Assumes nothing.
-use borrow.Author.Rules.{rules}
 use mathlib.Core.Path.{◌∙◌, ap, sym}
 use mathlib.Core.List.{List}
 use Rattle.vector.specs.declared.Number.{Number}
@@ -11,7 +10,7 @@ use Rattle.capi_vectors.proofs.inner.put_number.Goals as goal
 
 pub returns-in-Value : goal.returns-in-Value
 returns-in-Value c =
-    ap (λ (l : List Float). single 0 l) (one_place c.args.out.now _ c.requires) ∙ sym (ap (λ (a : Number). numberPut a c.args.out.now) c.answer-1.given.1)
+    ap (λ (l : List Float). single 0 l) (one_place c.args.out.now _ c.requires) ∙ sym (ap (λ (a : Number). numberPut a c.args.out.now) c.in-Value.is)
 
 pub returns-in-Refused : goal.returns-in-Refused
-returns-in-Refused c = sym (ap (λ (a : Number). numberPut a c.args.out.now) c.answer-in-Refused-1.given.1)
+returns-in-Refused c = sym (ap (λ (a : Number). numberPut a c.args.out.now) c.in-Refused.is)

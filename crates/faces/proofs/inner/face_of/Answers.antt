@@ -10,7 +10,6 @@ use mir.Val.{SFits, to_z, of_z}
 use mir.ValLaws.{to_z-of_z}
 use mir.Facts.{to_z_pos}
 use Rattle.faces.specs.Slots.{faceFor}
-use borrow.Author.Rules.{rules}
 use Rattle.faces.proofs.inner.face_of.Goals as goal
 
 read : (b : ℕ) → b < 1024 → to_z w32 (b + 1) ≡ pos (suc b)

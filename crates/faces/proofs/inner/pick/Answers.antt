@@ -1,6 +1,5 @@
 -- `faces::inner::pick` meets its contract. Assumes nothing.
 use Rattle.faces.proofs.Picks.{slot_at, picked-at}
-use borrow.Author.Rules.{rules}
 use Rattle.faces.proofs.inner.pick.Goals as goal
 
 pub returns : goal.returns

@@ -1,16 +1,13 @@
 -- `faces::inner::pick_faces` meets its contract. Assumes nothing.
 use borrow.Author.Rules.{rules}
-use Prim.Native.Nat.{◌+◌, ◌-◌, ◌<◌, ◌≤◌}
-use mathlib.Core.Path.{◌≡◌, refl, sym, ◌∙◌, ap}
-use mathlib.Core.Bool.{true}
-use mathlib.Core.List.{◌++◌}
+use Prim.Native.Nat.{◌-◌, ◌<◌}
+use mathlib.Core.Path.{refl, sym, ◌∙◌, ap}
 use native.Mathlib.Nat.{sub-zero}
 use native.Mathlib.Omega.{arith}
-use lib.ListN.{length, take, drop, length-set}
+use lib.ListN.{length, length-set}
 use mir.Syntax.{w32}
 use mir.ValLaws.{to_z-of_z}
 use Rattle.vector.specs.Finite.{allFinite}
-use Rattle.faces.specs.Slots.{facesOf, after_of}
 use Rattle.faces.proofs.Slots.{length-picked, finite-picked}
 use Rattle.faces.proofs.Picks.{face-at, picked-at, after-step, faces-step, after-end, faces-end, rest-step, written}
 use Rattle.faces.proofs.inner.pick_faces.Goals as goal
@@ -32,7 +29,7 @@ loop-k-preserved c =
     let k = c.loop-k.k in
     let B = c.best_index-b.ensures.1 in
     let P = picked-at w c.best_index-b.result B in
-    let z = face-at w c.best_index-b.result B _ (to_z-of_z w32 c.face_of-f.result (record { sfits = c.face_of-f.type-inv }) ∙ c.face_of-f.ensures) in
+    let z = face-at w c.best_index-b.result B _ (to_z-of_z w32 c.face_of-f.result (record { sfits = c.face_of-f.type_inv }) ∙ c.face_of-f.ensures) in
     let l : k < n = omega arith in (
       ap length P ∙ length-picked w ∙ c.loop-k.invariant.0,
       simp length-set c.loop-k.invariant.1,

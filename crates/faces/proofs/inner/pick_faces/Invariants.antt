@@ -1,17 +1,10 @@
-use borrow.Author.Rules.{rules}
-use Prim.Native.Nat.{◌+◌, ◌-◌, ◌<◌, ◌≤◌}
-use mathlib.Core.Path.{◌≡◌, refl, sym, ◌∙◌, ap}
+use Prim.Native.Nat.{◌+◌, ◌-◌, ◌≤◌}
+use mathlib.Core.Path.{◌≡◌}
 use mathlib.Core.Bool.{true}
 use mathlib.Core.List.{◌++◌}
-use native.Mathlib.Nat.{sub-zero}
-use native.Mathlib.Omega.{arith}
-use lib.ListN.{length, take, drop, length-set}
-use mir.Syntax.{w32}
-use mir.ValLaws.{to_z-of_z}
+use lib.ListN.{length, take, drop}
 use Rattle.vector.specs.Finite.{allFinite}
 use Rattle.faces.specs.Slots.{facesOf, after_of}
-use Rattle.faces.proofs.Slots.{length-picked, finite-picked}
-use Rattle.faces.proofs.Picks.{face-at, picked-at, after-step, faces-step, after-end, faces-end, rest-step, written}
 use Rattle.faces.proofs.inner.pick_faces.Given as goal
 
 abbrev pub invariant-loop-k : goal.invariant-loop-k

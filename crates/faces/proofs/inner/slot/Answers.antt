@@ -1,6 +1,5 @@
 -- `faces::inner::slot` meets its contract. Assumes nothing.
 use Rattle.faces.proofs.Picks.{slot_at}
-use borrow.Author.Rules.{rules}
 use Rattle.faces.proofs.inner.slot.Goals as goal
 
 pub returns : goal.returns

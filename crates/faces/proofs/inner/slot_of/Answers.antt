@@ -1,6 +1,5 @@
 -- `faces::inner::slot_of` meets its contract. Assumes nothing.
 use native.Mathlib.Omega.{arith}
-use borrow.Author.Rules.{rules}
 use Rattle.faces.proofs.inner.slot_of.Goals as goal
 
 pub returns-then-up : goal.returns-then-up

@@ -1,10 +1,9 @@
 -- `vector::inner::dot_of` meets its contract. Assumes nothing.
 use borrow.Author.Rules.{rules}
-use Prim.Native.Nat.{◌-◌, ◌≤◌}
-use mathlib.Core.Path.{◌≡◌, refl, sym, ◌∙◌}
+use Prim.Native.Nat.{◌-◌}
+use mathlib.Core.Path.{refl, sym, ◌∙◌}
 use native.Mathlib.Omega.{arith}
-use lib.ListN.{length, drop}
-use Rattle.vector.specs.Fold.{fold2, dotOf, dotStep}
+use Rattle.vector.specs.Fold.{dotOf, dotStep}
 use Rattle.vector.proofs.Vectors.{fold2-step, fold2-end}
 use Rattle.vector.proofs.inner.dot_of.Goals as goal
 

@@ -1,10 +1,7 @@
-use borrow.Author.Rules.{rules}
 use Prim.Native.Nat.{◌-◌, ◌≤◌}
-use mathlib.Core.Path.{◌≡◌, refl, sym, ◌∙◌}
-use native.Mathlib.Omega.{arith}
+use mathlib.Core.Path.{◌≡◌}
 use lib.ListN.{length, drop}
 use Rattle.vector.specs.Fold.{fold2, dotOf, dotStep}
-use Rattle.vector.proofs.Vectors.{fold2-step, fold2-end}
 use Rattle.vector.proofs.inner.dot_of.Given as goal
 
 abbrev pub invariant-loop-i : goal.invariant-loop-i

@@ -1,10 +1,9 @@
 -- `vector::inner::squares_of` meets its contract. Assumes nothing.
 use borrow.Author.Rules.{rules}
-use Prim.Native.Nat.{◌-◌, ◌≤◌}
-use mathlib.Core.Path.{◌≡◌, refl, sym, ◌∙◌}
+use Prim.Native.Nat.{◌-◌}
+use mathlib.Core.Path.{refl, sym, ◌∙◌}
 use native.Mathlib.Omega.{arith}
-use lib.ListN.{length, drop}
-use Rattle.vector.specs.Fold.{fold2, squaresOf, distStep}
+use Rattle.vector.specs.Fold.{squaresOf, distStep}
 use Rattle.vector.proofs.Vectors.{fold2-step, fold2-end}
 use Rattle.vector.proofs.inner.squares_of.Goals as goal
 

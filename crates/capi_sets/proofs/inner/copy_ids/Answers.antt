@@ -1,5 +1,5 @@
 -- `capi_sets::inner::copy_ids` meets its contract: after i turns the first i places are copied. Assumes nothing.
-use Prim.Native.Nat.{ℕ, ◌-◌, ◌≤◌, ◌<◌}
+use Prim.Native.Nat.{ℕ, ◌<◌}
 use mathlib.Core.Path.{◌≡◌, ◌∙◌, ap, refl}
 use native.Mathlib.Omega.{arith}
 use borrow.Author.Rules.{rules}

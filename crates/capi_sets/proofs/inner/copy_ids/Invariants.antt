@@ -1,10 +1,7 @@
-use Prim.Native.Nat.{ℕ, ◌-◌, ◌≤◌, ◌<◌}
-use mathlib.Core.Path.{◌≡◌, ◌∙◌, ap, refl}
-use native.Mathlib.Omega.{arith}
-use borrow.Author.Rules.{rules}
-use lib.ListN.{length, length-set}
+use Prim.Native.Nat.{◌-◌, ◌≤◌}
+use mathlib.Core.Path.{◌≡◌}
+use lib.ListN.{length}
 use Rattle.capi_vectors.specs.Single.{laidOver}
-use Rattle.paper.proofs.Copies.{copy_more}
 use Rattle.capi_sets.proofs.inner.copy_ids.Given as goal
 
 abbrev pub invariant-loop-i : goal.invariant-loop-i

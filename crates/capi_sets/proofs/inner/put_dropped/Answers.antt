@@ -1,5 +1,4 @@
 -- `capi_sets::inner::put_dropped` meets its contract. Assumes nothing.
-use borrow.Author.Rules.{rules}
 use mathlib.Core.Path.{◌∙◌, ap, sym}
 use mathlib.Core.List.{List}
 use Rattle.counting_bitmap.specs.declared.Merged.{Merged}

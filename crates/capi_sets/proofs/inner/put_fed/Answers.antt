@@ -1,5 +1,4 @@
 -- `capi_sets::inner::put_fed` meets its contract. Assumes nothing.
-use borrow.Author.Rules.{rules}
 use native.Mathlib.Omega.{arith}
 use Rattle.capi_sets.specs.Lists.{outs}
 use Rattle.capi_sets.proofs.Lists.{fed-kept, fed-laid}

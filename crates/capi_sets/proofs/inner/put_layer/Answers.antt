@@ -1,5 +1,4 @@
 -- `capi_sets::inner::put_layer` meets its contract. Assumes nothing.
-use borrow.Author.Rules.{rules}
 use mathlib.Core.Path.{◌∙◌, ap, sym}
 use mathlib.Core.List.{List}
 use Rattle.counting_bitmap.specs.declared.Chosen.{Chosen}

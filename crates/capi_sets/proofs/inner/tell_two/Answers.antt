@@ -1,5 +1,4 @@
 -- `capi_sets::inner::tell_two` meets its contract. Assumes nothing.
-use borrow.Author.Rules.{rules}
 use Rattle.capi_vectors.proofs.Places.{two-places}
 use Rattle.capi_sets.proofs.inner.tell_two.Goals as goal
 

@@ -214,7 +214,7 @@ class Readme(unittest.TestCase):
         header = read("c", "bbqvec.h") + read("c", "bbqvec_index.h")
         for name in set(re.findall(r"\bbbq_\w+|\bBBQ_\w+", c)):
             self.assertRegex(header, rf"\b{name}\b")
-        calls = re.findall(r"\b(bbq_index_\w+)\(([^()]*)\)", c)
+        calls = re.findall(r"\b(bbq_index_\w+)\(([^()]*)\)", re.sub(r"\(float\[\]\)\{[^}]*\}", "floats", c))
         self.assertGreaterEqual(len(calls), 5)
         for call, arguments in calls:
             declared = re.search(rf"^\w.*\b{call}\(([^;]*)\);", read("c", "bbqvec_index.h"), re.M).group(1)

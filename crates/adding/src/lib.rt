@@ -1,4 +1,6 @@
 // Adding a vector to an index over lent memory (vector_store.rs's add_vector, backend_memory.rs's put_vector).
+#![tactic(auto)]
+
 ghost use Rattle.std.specs.Prelude.{◌≡◌, ◌+◌, ◌*◌, ◌≤◌, eqb, length, get_or};
 ghost use Rattle.std.proofs.lemmas.List.Edits.{sets};
 ghost use Rattle.paper.specs.Choice.{pick};

@@ -1,5 +1,7 @@
 // The calls for C and Rust on an index: numbers pass as themselves, a slice as a pointer and then a length. Each checks the lengths of what it writes its
 // answer into, and is otherwise the public function that its comment names; none asks anything of its caller but that what is lent is there.
+#![tactic(auto)]
+
 ghost use Rattle.std.specs.Prelude.{◌≡◌};
 ghost use Rattle.paper.specs.Geometry.{geo};
 ghost use Rattle.index_memory.specs.Memory.{ixOf, done, emptyOf};

@@ -1,4 +1,6 @@
 // The nearest neighbours of a target: find_nearest and full_table_scan of vector_store.rs, over lent memory.
+#![tactic(auto)]
+
 ghost use Rattle.std.specs.Prelude.{◌≡◌, ◌≤◌, length};
 ghost use Rattle.paper.specs.Geometry.{geo};
 ghost use Rattle.index_memory.specs.Memory.{ixOf};

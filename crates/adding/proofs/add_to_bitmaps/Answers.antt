@@ -51,8 +51,8 @@ overflow_add-b-in-loop-b c =
 pub add-requires : goal.add-requires
 add-requires c =
     let a = c.args in
-    let p = face-bit-low a.d a.n a.cap c.loop-b.b (get_or a.t2 c.loop-b.b 0) a.id c.requires.cap-even c.loop-b-test.true (c.requires.low c.loop-b.b c.loop-b-test.true) c.requires.id-low in
-    subst (λ (k : ℕ). faceBit a.d a.cap c.loop-b.b (get_or a.t2 c.loop-b.b 0) a.id < k * 64) (sym (c.loop-b.invariant.1 ∙ c.requires.faces)) p
+    let p = face-bit-low a.d a.n a.cap c.loop-b.b (get_or a.slots c.loop-b.b 0) a.id c.requires.cap-even c.loop-b-test.true (c.requires.low c.loop-b.b c.loop-b-test.true) c.requires.id-low in
+    subst (λ (k : ℕ). faceBit a.d a.cap c.loop-b.b (get_or a.slots c.loop-b.b 0) a.id < k * 64) (sym (c.loop-b.invariant.1 ∙ c.requires.faces)) p
 
 pub overflow_add-b-in-loop-b-2 : goal.overflow_add-b-in-loop-b-2
 overflow_add-b-in-loop-b-2 c = omega (arith, c.requires.n-high, c.loop-b-test)
@@ -64,8 +64,8 @@ pub loop-b-preserved : goal.loop-b-preserved
 loop-b-preserved c =
     let a = c.args in (
       omega (arith, c.loop-b-test),
-      c.add.auto.set ∙ c.loop-b.invariant.1,
-      c.add.ensures ∙ with-more a.d a.cap a.id (λ j. get_or a.t2 j 0) c.loop-b.b a.faces.now _ c.loop-b.invariant.2,
+      c.add.auto.a ∙ c.loop-b.invariant.1,
+      c.add.ensures ∙ with-more a.d a.cap a.id (λ j. get_or a.slots j 0) c.loop-b.b a.faces.now _ c.loop-b.invariant.2,
     )
 
 pub shape_of-faces : goal.shape_of-faces
@@ -75,4 +75,4 @@ pub returns : goal.returns
 returns c =
     let a = c.args in
     let e : c.loop-b.b ≡ a.n = omega (arith, c.loop-b.invariant, c.loop-b-test) in
-    c.loop-b.invariant.2 ∙ ap (λ (k : ℕ). withFaces a.d a.cap a.id (λ j. get_or a.t2 j 0) k a.faces.now) e
+    c.loop-b.invariant.2 ∙ ap (λ (k : ℕ). withFaces a.d a.cap a.id (λ j. get_or a.slots j 0) k a.faces.now) e

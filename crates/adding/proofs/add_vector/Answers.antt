@@ -13,12 +13,12 @@ pub returns-then-s-ne0 : goal.returns-then-s-ne0
 returns-then-s-ne0 c = shape-refused _ _ _ _ _ _ _ c.shape_refusal-s.ensures c.if-s-ne0.true
 
 pub returns-then-not-all_finite : goal.returns-then-not-all_finite
-returns-then-not-all_finite c = five-refused _ _ _ _ _ _ _ c.shape_refusal-s.ensures c.if-s-ne0.false (sym c.all_finite.ensures ∙ not-true _ c.if-not-all_finite.true-raw)
+returns-then-not-all_finite c = five-refused _ _ _ _ _ _ _ c.shape_refusal-s.ensures c.if-s-ne0.false (sym c.all_finite.ensures ∙ c.if-not-all_finite.true)
 
 pub check_and_write-r-requires : goal.check_and_write-r-requires
 check_and_write-r-requires c = let a = c.args in shaped-by (geo a.d a.n a.cap a.mode) a.id _ _ _ _ _ _ _ c.shape_refusal-s.ensures c.if-s-ne0.false
 
 pub returns : goal.returns
 returns c =
-    late-done _ _ _ _ _ _ _ _ _ _ c.shape_refusal-s.ensures c.if-s-ne0.false (sym c.all_finite.ensures ∙ not-false _ c.if-not-all_finite.false-raw) c.check_and_write-r.ensures.0 c.check_and_write-r.ensures.1
+    late-done _ _ _ _ _ _ _ _ _ _ c.shape_refusal-s.ensures c.if-s-ne0.false (sym c.all_finite.ensures ∙ c.if-not-all_finite.false) c.check_and_write-r.ensures.0 c.check_and_write-r.ensures.1
     (c.clear_floats.ensures ∙ ap (λ (k : ℕ). floatZeros k) c.check_and_write-r.auto.work)

@@ -13,10 +13,10 @@ pub loop-i-init : goal.loop-i-init
 loop-i-init c = (search rules, c.requires, refl)
 
 pub offset_bounds-v-i : goal.offset_bounds-v-i
-offset_bounds-v-i c = omega (arith, c.well-formed)
+offset_bounds-v-i c = omega arith
 
 pub offset_bounds-work-i : goal.offset_bounds-work-i
-offset_bounds-work-i c = omega (arith, c.well-formed)
+offset_bounds-work-i c = omega arith
 
 pub bounds-work-i : goal.bounds-work-i
 bounds-work-i c = omega arith

@@ -7,12 +7,12 @@ use Rattle.adding.proofs.lent_lengths_ok.Goals as goal
 
 pub returns-then-not-bases_length_ok : goal.returns-then-not-bases_length_ok
 unfolding lentOk
-returns-then-not-bases_length_ok c = simp (sym c.bases_length_ok.ensures ∙ not-true _ c.if-not-bases_length_ok.true-raw)
+returns-then-not-bases_length_ok c = simp (sym c.bases_length_ok.ensures ∙ c.if-not-bases_length_ok.true)
 
 pub returns-then-work-d : goal.returns-then-work-d
 unfolding lentOk
-returns-then-work-d c = simp (sym c.bases_length_ok.ensures ∙ not-false _ c.if-not-bases_length_ok.false-raw, ne_eqb _ _ c.if-work-d.true)
+returns-then-work-d c = simp (sym c.bases_length_ok.ensures ∙ c.if-not-bases_length_ok.false, ne_eqb _ _ c.if-work-d.true)
 
 pub returns : goal.returns
 unfolding lentOk
-returns c = simp (sym c.bases_length_ok.ensures ∙ not-false _ c.if-not-bases_length_ok.false-raw, eq-eqb _ _ c.if-work-d.false)
+returns c = simp (sym c.bases_length_ok.ensures ∙ c.if-not-bases_length_ok.false, eq-eqb _ _ c.if-work-d.false)

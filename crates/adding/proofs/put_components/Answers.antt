@@ -18,15 +18,15 @@ loop-i-init c = (search rules, refl, lowered_none _ _ _ c.args.work.now)
 pub overflow_mul-size : goal.overflow_mul-size
 overflow_mul-size c =
     let s : c.component_size-size.result ≤ 4 = rw c.component_size-size.ensures (comp-le _) in
-    omega (arith, mul-le-mul s (le_of_lt c.loop-i-test.true), c.well-formed)
+    omega (arith, mul-le-mul s (le_of_lt c.loop-i-test.true))
 
 pub overflow_add-at : goal.overflow_add-at
 overflow_add-at c =
     let r : c.args.at + c.component_size-size.result * length c.args.work.now ≤ length c.args.vectors.now = rw c.component_size-size.ensures c.requires in
-    omega (arith, mul-le-mul_left c.component_size-size.result (le_of_lt c.loop-i-test.true), c.well-formed)
+    omega (arith, mul-le-mul_left c.component_size-size.result (le_of_lt c.loop-i-test.true))
 
 pub offset_bounds-work-i : goal.offset_bounds-work-i
-offset_bounds-work-i c = omega (arith, c.well-formed, c.loop-i-test)
+offset_bounds-work-i c = omega (arith, c.loop-i-test)
 
 pub bounds-work-i : goal.bounds-work-i
 bounds-work-i c = c.loop-i-test.true
@@ -38,7 +38,7 @@ put_component-requires c =
     omega (arith, q, c.component_size-size.ensures, c.loop-i.invariant)
 
 pub overflow_add-i : goal.overflow_add-i
-overflow_add-i c = omega (arith, c.well-formed, c.loop-i-test)
+overflow_add-i c = omega (arith, c.loop-i-test)
 
 pub loop-i-smaller : goal.loop-i-smaller
 loop-i-smaller c = omega (arith, c.loop-i-test)

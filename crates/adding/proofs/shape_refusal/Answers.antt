@@ -16,14 +16,14 @@ lent_lengths_ok-requires c =
 pub returns-then-not-lent_lengths_ok : goal.returns-then-not-lent_lengths_ok
 returns-then-not-lent_lengths_ok c =
     let a = c.args in
-    lent-refused (geo a.d a.n a.cap a.mode) a.id a.bases a.faces a.marks a.vectors a.work a.v _ c.own_refusal-own.ensures c.if-own-ne0.false (sym c.lent_lengths_ok.ensures ∙ not-true _ c.if-not-lent_lengths_ok.true-raw)
+    lent-refused (geo a.d a.n a.cap a.mode) a.id a.bases a.faces a.marks a.vectors a.work a.v _ c.own_refusal-own.ensures c.if-own-ne0.false (sym c.lent_lengths_ok.ensures ∙ c.if-not-lent_lengths_ok.true)
 
 pub returns-then-id-cap : goal.returns-then-id-cap
 returns-then-id-cap c =
     let a = c.args in
-    rw (lt-ltb _ _ c.if-id-cap.true) at (id-decides (geo a.d a.n a.cap a.mode) a.id a.bases a.faces a.marks a.vectors a.work a.v _ c.own_refusal-own.ensures c.if-own-ne0.false (sym c.lent_lengths_ok.ensures ∙ not-false _ c.if-not-lent_lengths_ok.false-raw))
+    rw (lt-ltb _ _ c.if-id-cap.true) at (id-decides (geo a.d a.n a.cap a.mode) a.id a.bases a.faces a.marks a.vectors a.work a.v _ c.own_refusal-own.ensures c.if-own-ne0.false (sym c.lent_lengths_ok.ensures ∙ c.if-not-lent_lengths_ok.false))
 
 pub returns-else-id-cap : goal.returns-else-id-cap
 returns-else-id-cap c =
     let a = c.args in
-    rw (le-ltb _ _ c.if-id-cap.false) at (id-decides (geo a.d a.n a.cap a.mode) a.id a.bases a.faces a.marks a.vectors a.work a.v _ c.own_refusal-own.ensures c.if-own-ne0.false (sym c.lent_lengths_ok.ensures ∙ not-false _ c.if-not-lent_lengths_ok.false-raw))
+    rw (le-ltb _ _ c.if-id-cap.false) at (id-decides (geo a.d a.n a.cap a.mode) a.id a.bases a.faces a.marks a.vectors a.work a.v _ c.own_refusal-own.ensures c.if-own-ne0.false (sym c.lent_lengths_ok.ensures ∙ c.if-not-lent_lengths_ok.false))

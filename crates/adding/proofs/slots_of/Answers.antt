@@ -17,7 +17,7 @@ use Rattle.basis.proofs.Bases.{finite-more, finite-no}
 use Rattle.adding.proofs.Turns.{projection-here, next-part, slot-more}
 use Rattle.adding.proofs.Cases.{slots-refused, slots-found}
 use Rattle.adding.proofs.slots_of.Goals as goal
-use Rattle.adding.proofs.slots_of.Tie as tie
+use Rattle.adding.proofs.slots_of.Goals.{In-loop-b}
 
 pub overflow_mul-square : goal.overflow_mul-square
 overflow_mul-square c = omega (arith, mul-le-mul c.requires.d-high c.requires.d-high)
@@ -26,19 +26,19 @@ pub loop-b-init : goal.loop-b-init
 unfolding projectionsFinite
 loop-b-init c = (search rules, omega arith, c.requires.work, refl, refl, λ j (l : j < 0). absurd (omega arith))
 
-here : (c : tie.In-loop-b invariant-loop decreases-loop) → c.loop-b.p + c.args.d * c.args.d ≤ length c.args.bases.now
+here : (c : In-loop-b) → c.loop-b.p + c.args.d * c.args.d ≤ length c.args.bases.now
 here c =
     let a = c.args in
     part_end c.loop-b.b a.n (a.d * a.d) c.loop-b.p a.bases.now c.loop-b-test.true c.loop-b.invariant.1 c.requires.bases
 
 pub overflow_add-p : goal.overflow_add-p
-overflow_add-p c = omega (arith, here c, c.well-formed)
+overflow_add-p c = omega (arith, here (goal.at.overflow_add-p c).In-loop-b)
 
 pub offset_bounds-bases-p : goal.offset_bounds-bases-p
-offset_bounds-bases-p c = omega (arith, here c, c.well-formed)
+offset_bounds-bases-p c = omega (arith, here (goal.at.offset_bounds-bases-p c).In-loop-b)
 
 pub slice_bounds-project-end : goal.slice_bounds-project-end
-slice_bounds-project-end c = omega (arith, here c)
+slice_bounds-project-end c = omega (arith, here (goal.at.slice_bounds-project-end c).In-loop-b)
 
 pub project-requires : goal.project-requires
 project-requires c =
@@ -55,7 +55,7 @@ pub returns-then-not-all_finite : goal.returns-then-not-all_finite
 returns-then-not-all_finite c =
     let a = c.args in
     let w = c.project.ensures ∙ projection-here a.d c.loop-b.p c.loop-b.b a.bases.now a.v.now c.loop-b.invariant.1 in
-    let f : allFinite (projectionAt a.d a.bases.now a.v.now c.loop-b.b) ≡ false = ap allFinite (sym w) ∙ sym c.all_finite.ensures ∙ not-true _ c.if-not-all_finite.true-raw in
+    let f : allFinite (projectionAt a.d a.bases.now a.v.now c.loop-b.b) ≡ false = ap allFinite (sym w) ∙ sym c.all_finite.ensures ∙ c.if-not-all_finite.true in
     slots-refused a.d a.n a.bases.now a.v.now c.loop-b.slots (finite-no a.d a.bases.now a.v.now a.n c.loop-b.b c.loop-b-test.true f)
 
 pub slot-requires : goal.slot-requires
@@ -64,7 +64,7 @@ slot-requires c =
     record {
       some = omega (arith, l, c.requires.d-low);
       few = omega (arith, l, c.requires.d-high);
-      finite = sym c.all_finite.ensures ∙ not-false _ c.if-not-all_finite.false-raw;
+      finite = sym c.all_finite.ensures ∙ c.if-not-all_finite.false;
     }
 
 pub offset_bounds-slots-b : goal.offset_bounds-slots-b
@@ -74,7 +74,7 @@ pub bounds-slots-b : goal.bounds-slots-b
 bounds-slots-b c = omega (arith, c.loop-b-test, c.requires.n-high)
 
 pub overflow_add-p-in-loop-b : goal.overflow_add-p-in-loop-b
-overflow_add-p-in-loop-b c = omega (arith, here c, c.well-formed)
+overflow_add-p-in-loop-b c = omega (arith, here (goal.at.overflow_add-p-in-loop-b c).In-loop-b)
 
 pub overflow_add-b : goal.overflow_add-b
 overflow_add-b c = omega (arith, c.loop-b-test, c.requires.n-high)
@@ -86,7 +86,7 @@ pub loop-b-preserved : goal.loop-b-preserved
 loop-b-preserved c =
     let a = c.args in
     let w = c.project.ensures ∙ projection-here a.d c.loop-b.p c.loop-b.b a.bases.now a.v.now c.loop-b.invariant.1 in
-    let f : allFinite (projectionAt a.d a.bases.now a.v.now c.loop-b.b) ≡ true = ap allFinite (sym w) ∙ sym c.all_finite.ensures ∙ not-false _ c.if-not-all_finite.false-raw in
+    let f : allFinite (projectionAt a.d a.bases.now a.v.now c.loop-b.b) ≡ true = ap allFinite (sym w) ∙ sym c.all_finite.ensures ∙ c.if-not-all_finite.false in
     let few : c.loop-b.b < length c.loop-b.slots = omega (arith, c.loop-b.invariant.3, c.loop-b-test, c.requires.n-high) in (
       omega (arith, c.loop-b-test),
       next-part c.loop-b.b (a.d * a.d) c.loop-b.p c.loop-b.invariant.1,

@@ -19,7 +19,7 @@ returns-then-not-geometry_ok c =
     let ix = ixOf a.faces.now a.marks.now a.vectors.now in
     let m = works a.work.now a.layers.now a.set.now in
     let o = outs a.ids.now a.scores.now a.told.now in
-    search-geometry g a.bases.now ix a.target.now a.k a.search-k a.spill m o (sym c.geometry_ok.ensures ∙ not-true _ c.if-not-geometry_ok.true-raw)
+    search-geometry g a.bases.now ix a.target.now a.k a.search_k a.spill m o (sym c.geometry_ok.ensures ∙ c.if-not-geometry_ok.true)
 
 pub room_ok-requires : goal.room_ok-requires
 room_ok-requires c = tt
@@ -31,7 +31,7 @@ returns-then-not-room_ok c =
     let ix = ixOf a.faces.now a.marks.now a.vectors.now in
     let m = works a.work.now a.layers.now a.set.now in
     let o = outs a.ids.now a.scores.now a.told.now in
-    search-room g a.bases.now ix a.target.now a.k a.search-k a.spill m o (sym c.geometry_ok.ensures ∙ not-false _ c.if-not-geometry_ok.false-raw) (sym c.room_ok.ensures ∙ not-true _ c.if-not-room_ok.true-raw)
+    search-room g a.bases.now ix a.target.now a.k a.search_k a.spill m o (sym c.geometry_ok.ensures ∙ c.if-not-geometry_ok.false) (sym c.room_ok.ensures ∙ c.if-not-room_ok.true)
 
 pub find_nearest-nearest-requires : goal.find_nearest-nearest-requires
 find_nearest-nearest-requires c = tt
@@ -42,8 +42,8 @@ put_nearest-requires c =
     let g = geo a.d a.n a.cap a.mode in
     let ix = ixOf a.faces.now a.marks.now a.vectors.now in
     let m = works a.work.now a.layers.now a.set.now in
-    let r = room _ _ _ _ _ (sym c.room_ok.ensures ∙ not-false _ c.if-not-room_ok.false-raw) in
-    (search-fits g a.bases.now ix a.target.now a.k a.search-k a.spill m _ _ _ c.find_nearest-nearest.ensures r.ids r.scores, r.told)
+    let r = room _ _ _ _ _ (sym c.room_ok.ensures ∙ c.if-not-room_ok.false) in
+    (search-fits g a.bases.now ix a.target.now a.k a.search_k a.spill m _ _ _ c.find_nearest-nearest.ensures r.ids r.scores, r.told)
 
 pub shape_of-work : goal.shape_of-work
 shape_of-work c = c.find_nearest-nearest.auto.work
@@ -55,13 +55,13 @@ pub shape_of-set : goal.shape_of-set
 shape_of-set c = c.find_nearest-nearest.auto.set
 
 pub shape_of-ids : goal.shape_of-ids
-shape_of-ids c = c.put_nearest.auto.scores
+shape_of-ids c = c.put_nearest.auto.ids
 
 pub shape_of-scores : goal.shape_of-scores
-shape_of-scores c = c.put_nearest.auto.told
+shape_of-scores c = c.put_nearest.auto.scores
 
 pub shape_of-told : goal.shape_of-told
-shape_of-told c = c.put_nearest.auto.1.1.1.0
+shape_of-told c = c.put_nearest.auto.told
 
 pub returns : goal.returns
 returns c =
@@ -70,5 +70,5 @@ returns c =
     let ix = ixOf a.faces.now a.marks.now a.vectors.now in
     let m = works a.work.now a.layers.now a.set.now in
     let o = outs a.ids.now a.scores.now a.told.now in
-    search-into g a.bases.now ix a.target.now a.k a.search-k a.spill m o _ _ (sym c.geometry_ok.ensures ∙ not-false _ c.if-not-geometry_ok.false-raw) (sym c.room_ok.ensures ∙ not-false _ c.if-not-room_ok.false-raw)
+    search-into g a.bases.now ix a.target.now a.k a.search_k a.spill m o _ _ (sym c.geometry_ok.ensures ∙ c.if-not-geometry_ok.false) (sym c.room_ok.ensures ∙ c.if-not-room_ok.false)
     c.find_nearest-nearest.ensures c.put_nearest.ensures

@@ -12,7 +12,7 @@ use Rattle.bitmaps.specs.declared.Found.TheVariants.{At, Nothing}
 use Rattle.merging.specs.Merging.{copied}
 use Rattle.merging.proofs.Loops.{copy-turn, copy-end}
 use Rattle.merging.proofs.copy_present.Goals as goal
-use Rattle.merging.proofs.copy_present.Tie as tie
+use Rattle.merging.proofs.copy_present.Goals.{In-At}
 
 pub loop-i-init : goal.loop-i-init
 unfolding copied
@@ -21,36 +21,36 @@ loop-i-init c = (search rules, refl, refl)
 pub next-requires : goal.next-requires
 next-requires c = c.requires.marks-high
 
-got : (c : tie.In-At invariant-loop decreases-loop) → NextIs c.args.marks.now c.loop-i.at (At c.i-1.given.0.0)
-got c = rw c.i-1.given.1 at c.next.ensures
+got : (c : In-At) → NextIs c.args.marks.now c.loop-i.at (At c.in-At.i)
+got c = rw c.in-At.is at c.next.ensures
 
 pub overflow_mul-i : goal.overflow_mul-i
 overflow_mul-i c =
-    let low : c.i-1.given.0.0 ≤ 65536 = omega (arith, (got c).1, c.requires.marks-high) in
+    let low : c.in-At.i ≤ 65536 = omega (arith, (got (goal.at.overflow_mul-i c).In-At).1, c.requires.marks-high) in
     omega (arith, mul-le-mul low c.requires.size-high)
 
 pub copy_slot-requires : goal.copy_slot-requires
 copy_slot-requires c =
     let a = c.args in (
-      subst (λ (k : ℕ). c.i-1.given.0.0 * a.size + a.size ≤ k) (sym (c.loop-i.invariant.1 ∙ c.requires.vectors)) (place c.i-1.given.0.0 (length a.marks.now * 64) a.size (got c).1),
+      subst (λ (k : ℕ). c.in-At.i * a.size + a.size ≤ k) (sym (c.loop-i.invariant.1 ∙ c.requires.vectors)) (place c.in-At.i (length a.marks.now * 64) a.size (got (goal.at.copy_slot-requires c).In-At).1),
       c.requires.from ∙ sym (c.loop-i.invariant.1 ∙ c.requires.vectors),
     )
 
 pub overflow_add-at : goal.overflow_add-at
-overflow_add-at c = omega (arith, (got c).1, c.requires.marks-high)
+overflow_add-at c = omega (arith, (got (goal.at.overflow_add-at c).In-At).1, c.requires.marks-high)
 
 pub loop-i-smaller : goal.loop-i-smaller
 loop-i-smaller c =
-    let g = got c in
+    let g = got (goal.at.loop-i-smaller c).In-At in
     omega (arith, g.0, g.1)
 
 pub loop-i-preserved : goal.loop-i-preserved
 loop-i-preserved c =
     let a = c.args in
-    let g = got c in (
+    let g = got (goal.at.loop-i-preserved c).In-At in (
       omega (arith, g.1),
       c.copy_slot.auto.vectors ∙ c.loop-i.invariant.1,
-      c.copy_slot.ensures ∙ copy-turn a.size a.marks.now a.from.now a.vectors.now c.loop-i.at c.i-1.given.0.0 c.loop-i.vectors g.0 g.2 g.3 c.loop-i.invariant.2,
+      c.copy_slot.ensures ∙ copy-turn a.size a.marks.now a.from.now a.vectors.now c.loop-i.at c.in-At.i c.loop-i.vectors g.0 g.2 g.3 c.loop-i.invariant.2,
     )
 
 pub shape_of-vectors-in-Nothing : goal.shape_of-vectors-in-Nothing
@@ -59,5 +59,5 @@ shape_of-vectors-in-Nothing c = c.loop-i.invariant.1
 pub returns-in-Nothing : goal.returns-in-Nothing
 returns-in-Nothing c =
     let a = c.args in
-    let n : NextIs a.marks.now c.loop-i.at Nothing = rw c.enum_told-1.given.1 at c.next.ensures in
+    let n : NextIs a.marks.now c.loop-i.at Nothing = rw c.in-Nothing.is at c.next.ensures in
     copy-end a.size a.marks.now a.from.now a.vectors.now c.loop-i.at (length a.marks.now * 64) c.loop-i.vectors c.loop-i.invariant.0 n c.loop-i.invariant.2

@@ -12,19 +12,19 @@ pub loop-j-init : goal.loop-j-init
 loop-j-init c = (search rules, refl, refl)
 
 pub overflow_add-vectors : goal.overflow_add-vectors
-overflow_add-vectors c = omega (arith, c.well-formed, c.requires)
+overflow_add-vectors c = omega (arith, c.requires)
 
 pub bounds-from-at : goal.bounds-from-at
 bounds-from-at c = omega (arith, c.requires)
 
 pub overflow_add-vectors-in-loop-j : goal.overflow_add-vectors-in-loop-j
-overflow_add-vectors-in-loop-j c = omega (arith, c.well-formed, c.requires)
+overflow_add-vectors-in-loop-j c = omega (arith, c.requires)
 
 pub bounds-vectors-at : goal.bounds-vectors-at
 bounds-vectors-at c = omega (arith, c.requires)
 
 pub overflow_add-j : goal.overflow_add-j
-overflow_add-j c = omega (arith, c.well-formed, c.requires)
+overflow_add-j c = omega (arith, c.requires)
 
 pub loop-j-smaller : goal.loop-j-smaller
 loop-j-smaller c = omega arith

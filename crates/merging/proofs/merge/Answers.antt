@@ -31,7 +31,7 @@ returns-then-not-own_lengths_ok c =
     let g = geo a.d a.n a.cap a.mode in
     let x = ixOf a.faces.now a.marks.now a.vectors.now in
     let y = ixOf a.faces2.now a.marks2.now a.vectors2.now in
-    merge-second g x y _ c.own_refusal-r.ensures c.if-r-ne0.false (sym c.own_lengths_ok.ensures ∙ not-true _ c.if-not-own_lengths_ok.true-raw)
+    merge-second g x y _ c.own_refusal-r.ensures c.if-r-ne0.false (sym c.own_lengths_ok.ensures ∙ c.if-not-own_lengths_ok.true)
 
 pub share_nothing-requires : goal.share_nothing-requires
 share_nothing-requires c =
@@ -39,7 +39,7 @@ share_nothing-requires c =
     let g = geo a.d a.n a.cap a.mode in
     let x = ixOf a.faces.now a.marks.now a.vectors.now in
     let y = ixOf a.faces2.now a.marks2.now a.vectors2.now in
-    (first-sized g x y _ c.own_refusal-r.ensures c.if-r-ne0.false (sym c.own_lengths_ok.ensures ∙ not-false _ c.if-not-own_lengths_ok.false-raw)).marks ∙ sym (second-sized g x y _ c.own_refusal-r.ensures c.if-r-ne0.false (sym c.own_lengths_ok.ensures ∙ not-false _ c.if-not-own_lengths_ok.false-raw)).marks
+    (first-sized g x y _ c.own_refusal-r.ensures c.if-r-ne0.false (sym c.own_lengths_ok.ensures ∙ c.if-not-own_lengths_ok.false)).marks ∙ sym (second-sized g x y _ c.own_refusal-r.ensures c.if-r-ne0.false (sym c.own_lengths_ok.ensures ∙ c.if-not-own_lengths_ok.false)).marks
 
 pub returns-then-not-share_nothing : goal.returns-then-not-share_nothing
 returns-then-not-share_nothing c =
@@ -47,7 +47,7 @@ returns-then-not-share_nothing c =
     let g = geo a.d a.n a.cap a.mode in
     let x = ixOf a.faces.now a.marks.now a.vectors.now in
     let y = ixOf a.faces2.now a.marks2.now a.vectors2.now in
-    merge-shared g x y _ c.own_refusal-r.ensures c.if-r-ne0.false (sym c.own_lengths_ok.ensures ∙ not-false _ c.if-not-own_lengths_ok.false-raw) (sym c.share_nothing.ensures ∙ not-true _ c.if-not-share_nothing.true-raw)
+    merge-shared g x y _ c.own_refusal-r.ensures c.if-r-ne0.false (sym c.own_lengths_ok.ensures ∙ c.if-not-own_lengths_ok.false) (sym c.share_nothing.ensures ∙ c.if-not-share_nothing.true)
 
 pub overflow_mul-size : goal.overflow_mul-size
 overflow_mul-size c =
@@ -56,7 +56,7 @@ overflow_mul-size c =
     let x = ixOf a.faces.now a.marks.now a.vectors.now in
     let y = ixOf a.faces2.now a.marks2.now a.vectors2.now in
     let s : c.component_size.result ≤ 4 = rw c.component_size.ensures (comp-le _) in
-    omega (arith, mul-le-mul s (first-sized g x y _ c.own_refusal-r.ensures c.if-r-ne0.false (sym c.own_lengths_ok.ensures ∙ not-false _ c.if-not-own_lengths_ok.false-raw)).facts.d-high)
+    omega (arith, mul-le-mul s (first-sized g x y _ c.own_refusal-r.ensures c.if-r-ne0.false (sym c.own_lengths_ok.ensures ∙ c.if-not-own_lengths_ok.false)).facts.d-high)
 
 pub copy_present-requires : goal.copy_present-requires
 copy_present-requires c =
@@ -64,7 +64,7 @@ copy_present-requires c =
     let g = geo a.d a.n a.cap a.mode in
     let x = ixOf a.faces.now a.marks.now a.vectors.now in
     let y = ixOf a.faces2.now a.marks2.now a.vectors2.now in
-    copy-args g x y _ c.own_refusal-r.ensures c.if-r-ne0.false (sym c.own_lengths_ok.ensures ∙ not-false _ c.if-not-own_lengths_ok.false-raw) _ c.component_size.ensures
+    copy-args g x y _ c.own_refusal-r.ensures c.if-r-ne0.false (sym c.own_lengths_ok.ensures ∙ c.if-not-own_lengths_ok.false) _ c.component_size.ensures
 
 pub or-requires : goal.or-requires
 or-requires c =
@@ -72,7 +72,7 @@ or-requires c =
     let g = geo a.d a.n a.cap a.mode in
     let x = ixOf a.faces.now a.marks.now a.vectors.now in
     let y = ixOf a.faces2.now a.marks2.now a.vectors2.now in
-    (first-sized g x y _ c.own_refusal-r.ensures c.if-r-ne0.false (sym c.own_lengths_ok.ensures ∙ not-false _ c.if-not-own_lengths_ok.false-raw)).faces ∙ sym (second-sized g x y _ c.own_refusal-r.ensures c.if-r-ne0.false (sym c.own_lengths_ok.ensures ∙ not-false _ c.if-not-own_lengths_ok.false-raw)).faces
+    (first-sized g x y _ c.own_refusal-r.ensures c.if-r-ne0.false (sym c.own_lengths_ok.ensures ∙ c.if-not-own_lengths_ok.false)).faces ∙ sym (second-sized g x y _ c.own_refusal-r.ensures c.if-r-ne0.false (sym c.own_lengths_ok.ensures ∙ c.if-not-own_lengths_ok.false)).faces
 
 pub or-requires-2 : goal.or-requires-2
 or-requires-2 c =
@@ -80,7 +80,7 @@ or-requires-2 c =
     let g = geo a.d a.n a.cap a.mode in
     let x = ixOf a.faces.now a.marks.now a.vectors.now in
     let y = ixOf a.faces2.now a.marks2.now a.vectors2.now in
-    (first-sized g x y _ c.own_refusal-r.ensures c.if-r-ne0.false (sym c.own_lengths_ok.ensures ∙ not-false _ c.if-not-own_lengths_ok.false-raw)).marks ∙ sym (second-sized g x y _ c.own_refusal-r.ensures c.if-r-ne0.false (sym c.own_lengths_ok.ensures ∙ not-false _ c.if-not-own_lengths_ok.false-raw)).marks
+    (first-sized g x y _ c.own_refusal-r.ensures c.if-r-ne0.false (sym c.own_lengths_ok.ensures ∙ c.if-not-own_lengths_ok.false)).marks ∙ sym (second-sized g x y _ c.own_refusal-r.ensures c.if-r-ne0.false (sym c.own_lengths_ok.ensures ∙ c.if-not-own_lengths_ok.false)).marks
 
 pub returns : goal.returns
 returns c =
@@ -88,4 +88,4 @@ returns c =
     let g = geo a.d a.n a.cap a.mode in
     let x = ixOf a.faces.now a.marks.now a.vectors.now in
     let y = ixOf a.faces2.now a.marks2.now a.vectors2.now in
-    merge-done g x y _ c.own_refusal-r.ensures c.if-r-ne0.false (sym c.own_lengths_ok.ensures ∙ not-false _ c.if-not-own_lengths_ok.false-raw) _ _ _ _ (sym c.share_nothing.ensures ∙ not-false _ c.if-not-share_nothing.false-raw) c.or.ensures c.or-2.ensures c.component_size.ensures c.copy_present.ensures
+    merge-done g x y _ c.own_refusal-r.ensures c.if-r-ne0.false (sym c.own_lengths_ok.ensures ∙ c.if-not-own_lengths_ok.false) _ _ _ _ (sym c.share_nothing.ensures ∙ c.if-not-share_nothing.false) c.or.ensures c.or-2.ensures c.component_size.ensures c.copy_present.ensures

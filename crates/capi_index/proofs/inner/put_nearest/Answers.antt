@@ -22,10 +22,10 @@ pub overflow_cast-len : goal.overflow_cast-len
 overflow_cast-len c = omega (arith, (c.requires.0 c.if-nearest-ne0.false).small)
 
 pub shape_of-ids : goal.shape_of-ids
-shape_of-ids c = c.copy_ids.auto.1.1.0
+shape_of-ids c = c.copy_ids.auto.to
 
 pub shape_of-scores : goal.shape_of-scores
-shape_of-scores c = c.copy_scores.auto.1.1.0
+shape_of-scores c = c.copy_scores.auto.to
 
 pub shape_of-told : goal.shape_of-told
 shape_of-told c = c.tell_three.auto.told

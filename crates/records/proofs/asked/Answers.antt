@@ -21,16 +21,16 @@ pub search_of-requires : goal.search_of-requires
 search_of-requires c = limits c.args.g (sym c.within_limits.ensures ∙ not-false c.within_limits.result c.if-not-within_limits.false-raw)
 
 pub returns-in-1 : goal.returns-in-1
-returns-in-1 c = of-kind c.args.s.now c.args.g c.u16_at-kind.result c.geometry_of.result (sym c.within_limits.ensures ∙ not-false c.within_limits.result c.if-not-within_limits.false-raw) c.if-s-lt2.false c.u16_at-kind.ensures.0 (c.geometry_of.ensures ∙ ap (λ k. kind_of k c.args.s.now c.args.g) (sym c.in_default.keys1))
+returns-in-1 c = of-kind c.args.s.now c.args.g c.u16_at-kind.result c.geometry_of.result (sym c.within_limits.ensures ∙ not-false c.within_limits.result c.if-not-within_limits.false-raw) c.if-s-lt2.false c.u16_at-kind.ensures.0 (c.geometry_of.ensures ∙ ap (λ k. kind_of k c.args.s.now c.args.g) (sym c.in-1.is))
 
 pub returns-in-2 : goal.returns-in-2
-returns-in-2 c = of-kind c.args.s.now c.args.g c.u16_at-kind.result c.basis_of.result (sym c.within_limits.ensures ∙ not-false c.within_limits.result c.if-not-within_limits.false-raw) c.if-s-lt2.false c.u16_at-kind.ensures.0 (c.basis_of.ensures ∙ ap (λ k. kind_of k c.args.s.now c.args.g) (sym c.in_default.keys2))
+returns-in-2 c = of-kind c.args.s.now c.args.g c.u16_at-kind.result c.basis_of.result (sym c.within_limits.ensures ∙ not-false c.within_limits.result c.if-not-within_limits.false-raw) c.if-s-lt2.false c.u16_at-kind.ensures.0 (c.basis_of.ensures ∙ ap (λ k. kind_of k c.args.s.now c.args.g) (sym c.in-2.is))
 
 pub returns-in-3 : goal.returns-in-3
-returns-in-3 c = of-kind c.args.s.now c.args.g c.u16_at-kind.result c.addition_of.result (sym c.within_limits.ensures ∙ not-false c.within_limits.result c.if-not-within_limits.false-raw) c.if-s-lt2.false c.u16_at-kind.ensures.0 (c.addition_of.ensures ∙ ap (λ k. kind_of k c.args.s.now c.args.g) (sym c.in_default.keys3))
+returns-in-3 c = of-kind c.args.s.now c.args.g c.u16_at-kind.result c.addition_of.result (sym c.within_limits.ensures ∙ not-false c.within_limits.result c.if-not-within_limits.false-raw) c.if-s-lt2.false c.u16_at-kind.ensures.0 (c.addition_of.ensures ∙ ap (λ k. kind_of k c.args.s.now c.args.g) (sym c.in-3.is))
 
 pub returns-in-5 : goal.returns-in-5
-returns-in-5 c = of-kind c.args.s.now c.args.g c.u16_at-kind.result c.search_of.result (sym c.within_limits.ensures ∙ not-false c.within_limits.result c.if-not-within_limits.false-raw) c.if-s-lt2.false c.u16_at-kind.ensures.0 (c.search_of.ensures ∙ ap (λ k. kind_of k c.args.s.now c.args.g) (sym c.in_default.keys4))
+returns-in-5 c = of-kind c.args.s.now c.args.g c.u16_at-kind.result c.search_of.result (sym c.within_limits.ensures ∙ not-false c.within_limits.result c.if-not-within_limits.false-raw) c.if-s-lt2.false c.u16_at-kind.ensures.0 (c.search_of.ensures ∙ ap (λ k. kind_of k c.args.s.now c.args.g) (sym c.in-5.is))
 
 pub returns-in_default : goal.returns-in_default
 returns-in_default c = of-kind c.args.s.now c.args.g c.u16_at-kind.result _ (sym c.within_limits.ensures ∙ not-false c.within_limits.result c.if-not-within_limits.false-raw) c.if-s-lt2.false c.u16_at-kind.ensures.0 (unknown c.args.s.now c.args.g c.u16_at-kind.result c.in_default.rest.0.0.0.1 c.in_default.rest.0.0.1 c.in_default.rest.0.1 c.in_default.rest.1)

@@ -2,7 +2,6 @@ use mathlib.Core.Path.{sym, ap}
 use native.Mathlib.Omega.{arith}
 use Rattle.lines.specs.Lines.{told}
 use Rattle.lines.proofs.Texts.{then, put_as, decimal-length}
-use borrow.Author.Rules.{rules}
 use Rattle.lines.proofs.inner.put_told.Goals as goal
 
 pub put_number-q-requires : goal.put_number-q-requires

@@ -5,7 +5,6 @@ use Rattle.records.proofs.Requests.{request-fits}
 use Rattle.steps.specs.Memory.{memoryOf}
 use Rattle.steps.specs.Steps.{state_of}
 use Rattle.steps.proofs.Cases.{stepped, added_is, added-not, based-is}
-use borrow.Author.Rules.{rules}
 use Rattle.steps.proofs.inner.step.Goals as goal
 
 pub set_basis-requires : goal.set_basis-requires

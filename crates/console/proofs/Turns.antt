@@ -11,7 +11,7 @@ use Rattle.steps.specs.Steps.{State, held}
 use Rattle.session.specs.Runs.{Far, feedOf, endText}
 use Rattle.session.specs.Played.{shown, left, Played, stopped, emptied, refilled, ended}
 use Rattle.console.specs.declared.Place.{Place}
-use Rattle.console.specs.Turns.{between, Outside, Next, over, on, nextBy, next_of, stands_for, Turned, last_of}
+use Rattle.console.specs.Turns.{between, Outside, over, on, nextBy, next_of, Turned, last_of}
 use Rattle.console.specs.Laws.{taken}
 
 -- ---- parts of the buffer

@@ -1,16 +1,21 @@
 // The search program's reading and writing: records from standard input, lines to standard output, a buffer at a time.
-// What the records come to is all in the crate session. No contract can say which bytes a read or a write of C's moves, so what the functions
+// What the records come to is all in the crate session. No contract can say which bytes a read or a write moves, so what the functions
 // here promise is what they do to the buffers. What a turn of the loop does of a run is proved (turn, and the laws turn-goes and turn-ends); that a
 // program of such turns prints the same however its input comes in is session's law (whole, plays, any-cut).
+#![tactic(auto)]
+
 ghost use Rattle.std.specs.Prelude.{◌≡◌, ◌+◌, ◌-◌, ◌≤◌, length, take, drop};
 ghost use Rattle.steps.specs.Steps.{held};
 ghost use Rattle.session.specs.Runs.{fed, feedOf};
 ghost use Rattle.console.specs.Turns.{between, Turned};
 ghost use Rattle.console.specs.Laws.{Laws};
 
-use libc::{STDIN_FILENO, STDOUT_FILENO};
 use session::Ran;
+use std::io::{Read, Stdin};
 use steps::Store;
+
+// The number of standard output.
+const STANDARD_OUTPUT: i32 = 1;
 
 // Where a turn leaves the run: the program's state, the part of the buffer that was read and is not used yet, and whether the run goes on.
 #[derive(Drop)]
@@ -32,42 +37,33 @@ pub struct More {
 fn print(out: &[u8], n: usize) -> bool
     requires { n ≤ length out.now }
 {
-    io::write_all(STDOUT_FILENO, &out[0..n])
+    io::write_all(STANDARD_OUTPUT, &out[0..n])
 }
 
-// Reads behind what is there already, which stays.
-fn read_behind(input: &mut [u8], at: usize) -> More
+// Reads behind what is there already, which stays. A read that fails counts as the end of the input.
+fn read_behind(mut stdin: Stdin, input: &mut [u8], at: usize) -> More
     requires { at ≤ length input.old }
     ensures { (at ≤ result.end) × (result.end ≤ length input.old) × (take at input.new ≡ take at input.old) }
 {
-    let room = input.len() - at;
-    let got = libc::read(STDIN_FILENO, &mut input[at..]);
-    if got <= 0 {
-        return More {
+    match stdin.read(&mut input[at..]) {
+        Ok(n) => More {
+            end: at + n,
+            any: n > 0,
+        },
+        Err(_) => More {
             end: at,
             any: false,
-        };
-    }
-    let n = io::count(got, &input[at..]);
-    if room < n {
-        return More {
-            end: at,
-            any: false,
-        };
-    }
-    More {
-        end: at + n,
-        any: true,
+        },
     }
 }
 
 // Brings what is left to the front, and reads behind it.
-fn refill(input: &mut [u8], from: usize, end: usize) -> More
+fn refill(stdin: Stdin, input: &mut [u8], from: usize, end: usize) -> More
     requires { (from ≤ end) × (end ≤ length input.old) }
     ensures { (end - from ≤ result.end) × (result.end ≤ length input.old) × (take (end - from) input.new ≡ take (end - from) (drop from input.old)) }
 {
     session::inner::keep(input, from, end);
-    read_behind(input, end - from)
+    read_behind(stdin, input, end - from)
 }
 
 // The end of the input.
@@ -89,8 +85,15 @@ fn feed_part(input: &[u8], from: usize, end: usize, store: Store, out: &mut [u8]
 }
 
 // One turn of the loop: feeds what stands in the buffer, writes what that has put, and reads more where it is asked for. That the bytes written
-// are those that feed has put, and that the end of the input prints its text, is seen here and in no contract: none can speak of what C moves.
-fn turn(input: &mut [u8], from: usize, end: usize, store: Store, out: &mut [u8]) -> Place
+// are those that feed has put, and that the end of the input prints its text, is seen here and in no contract: none can speak of what a write moves.
+fn turn(
+    stdin: Stdin,
+    input: &mut [u8],
+    from: usize,
+    end: usize,
+    store: Store,
+    out: &mut [u8],
+) -> Place
     requires { (from ≤ end) × (end ≤ length input.old) }
     ensures { Turned (between from end input.old) (held store) out.old result input.new }
 {
@@ -121,7 +124,7 @@ fn turn(input: &mut [u8], from: usize, end: usize, store: Store, out: &mut [u8])
             goes: true,
         };
     }
-    let more = refill(input, rest, end);
+    let more = refill(stdin, input, rest, end);
     let last = more.end;
     if !more.any {
         end_run(&input[0..last]);
@@ -138,7 +141,8 @@ fn turn(input: &mut [u8], from: usize, end: usize, store: Store, out: &mut [u8])
 // What feed leaves of the input when it waits is less than a record (session's law part-short), so that there is always room to read more.
 // Every turn reads at least a byte, or empties a full buffer (its law moves), or ends the run: the turns that are counted down, as a loop has to
 // be seen to end, are never used up.
-pub fn run() {
+pub fn run(rt: HostRuntime) {
+    let stdin = rt.stdin();
     let mut store = steps::start();
     let mut input = [0u8; 65536];
     let mut out = [0u8; 65536];
@@ -147,7 +151,7 @@ pub fn run() {
     let mut turns = u64::MAX;
     while turns > 0 {
         turns -= 1;
-        let t = turn(&mut input, from, end, store, &mut out);
+        let t = turn(stdin, &mut input, from, end, store, &mut out);
         if !t.goes {
             return;
         }

@@ -1,4 +1,6 @@
 // The lines that the search program prints (01, "The search program").
+#![tactic(auto)]
+
 ghost use Rattle.lines.specs.Laws.{Laws};
 
 pub mod inner;

@@ -1,4 +1,6 @@
 // What a record of the search program asks for, or the number that refuses it (01, "The search program").
+#![tactic(auto)]
+
 ghost use Rattle.std.specs.Prelude.{◌≡◌, ◌+◌, ◌*◌, ◌<◌};
 ghost use Rattle.records.specs.Requests.{Limits, withinLimits, geometryFits, geometryOf, basisOf, additionOf, searchOf, requestOf};
 

@@ -1,4 +1,6 @@
 // The search program (01, "The search program"): records from standard input, lines to standard output.
-fn main() {
-    console::run();
+#![tactic(auto)]
+
+fn main(rt: HostRuntime) {
+    console::run(rt);
 }

@@ -1,4 +1,6 @@
 // The search program on an input and with an output of more than two buffers (EXPECTED.md).
-fn main() {
-    console::run();
+#![tactic(auto)]
+
+fn main(rt: HostRuntime) {
+    console::run(rt);
 }

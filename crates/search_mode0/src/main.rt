@@ -1,4 +1,6 @@
 // The search program on a run with store mode 0 that meets every refusal that records can meet (EXPECTED.md).
-fn main() {
-    console::run();
+#![tactic(auto)]
+
+fn main(rt: HostRuntime) {
+    console::run(rt);
 }

@@ -1,4 +1,6 @@
 // The search program on a run with store mode 1 (EXPECTED.md).
-fn main() {
-    console::run();
+#![tactic(auto)]
+
+fn main(rt: HostRuntime) {
+    console::run(rt);
 }

@@ -1,4 +1,6 @@
 // A whole run of the search program: records out of the bytes that were read, in whatever pieces (01, "The search program").
+#![tactic(auto)]
+
 ghost use Rattle.std.specs.Prelude.{◌≡◌, replicate};
 ghost use Rattle.lines.specs.Lines.{Put};
 ghost use Rattle.steps.specs.Steps.{held};

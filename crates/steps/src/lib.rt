@@ -1,4 +1,6 @@
 // One record of the search program: what it does to the program's memory, and what it prints (01, "The search program").
+#![tactic(auto)]
+
 ghost use Rattle.std.specs.Prelude.{◌≡◌};
 ghost use Rattle.steps.specs.Steps.{start_of};
 ghost use Rattle.steps.specs.Laws.{Laws};

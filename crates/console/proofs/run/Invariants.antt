@@ -1,6 +1,4 @@
 use mathlib.Core.Path.{◌≡◌}
-use native.Mathlib.Omega.{arith}
-use borrow.Author.Rules.{rules}
 use Prim.Native.Nat.{◌≤◌}
 use lib.ListN.{length}
 use Rattle.console.proofs.run.Given as goal

@@ -1,6 +1,5 @@
 use borrow.Author.Tests.{eq-eqb, ne_eqb}
 use Rattle.records.specs.Requests.{additionOf}
-use borrow.Author.Rules.{rules}
 use Rattle.records.proofs.addition_of.Goals as goal
 
 pub returns-then-g-eq0 : goal.returns-then-g-eq0

@@ -2,7 +2,6 @@ use borrow.Author.Tests.{eq-eqb, ne_eqb, lt-ltb, le-ltb}
 use Rattle.records.specs.Requests.{basisOf}
 use native.Mathlib.Omega.{arith}
 use Rattle.records.proofs.Requests.{square}
-use borrow.Author.Rules.{rules}
 use Rattle.records.proofs.basis_of.Goals as goal
 
 pub returns-then-g-ne1 : goal.returns-then-g-ne1

@@ -1,6 +1,5 @@
-use borrow.Author.Tests.{eq-eqb, ne_eqb, not-true, not-false}
+use borrow.Author.Tests.{eq-eqb, ne_eqb}
 use Rattle.records.specs.Requests.{geometryOf}
-use borrow.Author.Rules.{rules}
 use Rattle.records.proofs.geometry_of.Goals as goal
 
 pub returns-then-g-ne0 : goal.returns-then-g-ne0
@@ -13,8 +12,8 @@ returns-then-s-ne11 c = simp (eq-eqb _ _ c.if-g-ne0.false, ne_eqb _ _ c.if-s-ne1
 
 pub returns-then-not-geometry_fits : goal.returns-then-not-geometry_fits
 unfolding geometryOf
-returns-then-not-geometry_fits c = simp (eq-eqb _ _ c.if-g-ne0.false, eq-eqb _ _ c.if-s-ne11.false, ← c.u16_at-d.ensures.0, ← c.u16_at-n.ensures.0, ← c.u32_at-cap.ensures, ← c.wide-mode.ensures, ← c.geometry_fits.ensures, not-true c.geometry_fits.result c.if-not-geometry_fits.true-raw)
+returns-then-not-geometry_fits c = simp (eq-eqb _ _ c.if-g-ne0.false, eq-eqb _ _ c.if-s-ne11.false, ← c.u16_at-d.ensures.0, ← c.u16_at-n.ensures.0, ← c.u32_at-cap.ensures, ← c.wide-mode.ensures, ← c.geometry_fits.ensures, c.if-not-geometry_fits.true)
 
 pub returns : goal.returns
 unfolding geometryOf
-returns c = simp (eq-eqb _ _ c.if-g-ne0.false, eq-eqb _ _ c.if-s-ne11.false, ← c.u16_at-d.ensures.0, ← c.u16_at-n.ensures.0, ← c.u32_at-cap.ensures, ← c.wide-mode.ensures, ← c.geometry_fits.ensures, not-false c.geometry_fits.result c.if-not-geometry_fits.false-raw)
+returns c = simp (eq-eqb _ _ c.if-g-ne0.false, eq-eqb _ _ c.if-s-ne11.false, ← c.u16_at-d.ensures.0, ← c.u16_at-n.ensures.0, ← c.u32_at-cap.ensures, ← c.wide-mode.ensures, ← c.geometry_fits.ensures, c.if-not-geometry_fits.false)

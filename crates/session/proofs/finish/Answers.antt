@@ -1,6 +1,5 @@
 use Rattle.lines.proofs.Texts.{put_as}
 use Rattle.session.proofs.Runs.{none_left, some_left}
-use borrow.Author.Rules.{rules}
 use Rattle.session.proofs.finish.Goals as goal
 
 pub returns-then-rest-eq0 : goal.returns-then-rest-eq0

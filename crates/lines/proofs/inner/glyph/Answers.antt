@@ -1,5 +1,4 @@
 use Rattle.lines.proofs.Texts.{low-glyph, high-glyph}
-use borrow.Author.Rules.{rules}
 use Rattle.lines.proofs.inner.glyph.Goals as goal
 
 pub returns-then-x-lt10 : goal.returns-then-x-lt10

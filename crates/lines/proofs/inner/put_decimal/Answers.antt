@@ -3,7 +3,6 @@ use lib.ListN.{length}
 use native.Mathlib.Omega.{arith}
 use Rattle.lines.specs.Lines.{decimal, tenDigits}
 use Rattle.lines.proofs.Texts.{put_as, trim-length}
-use borrow.Author.Rules.{rules}
 use Rattle.lines.proofs.inner.put_decimal.Goals as goal
 
 pub put_text-requires : goal.put_text-requires

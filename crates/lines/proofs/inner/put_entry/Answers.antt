@@ -2,7 +2,6 @@ use native.Mathlib.Omega.{arith}
 use mathlib.Core.Path.{ap}
 use Rattle.lines.specs.Lines.{hexadecimal, entry}
 use Rattle.lines.proofs.Texts.{then, put_as, decimal-length}
-use borrow.Author.Rules.{rules}
 use Rattle.lines.proofs.inner.put_entry.Goals as goal
 
 pub put_text-q-requires : goal.put_text-q-requires

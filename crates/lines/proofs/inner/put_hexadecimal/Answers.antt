@@ -1,7 +1,6 @@
 use mathlib.Core.List.{[], ◌∷◌}
 use Rattle.lines.specs.Lines.{hexadecimal, glyph}
 use Rattle.lines.proofs.Texts.{put_as}
-use borrow.Author.Rules.{rules}
 use Rattle.lines.proofs.inner.put_hexadecimal.Goals as goal
 
 pub returns : goal.returns

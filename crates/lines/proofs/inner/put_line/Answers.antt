@@ -2,7 +2,6 @@ use native.Mathlib.Omega.{arith}
 use lib.ListN.{length-append}
 use Rattle.lines.specs.Lines.{decimal}
 use Rattle.lines.proofs.Texts.{then, decimal-length}
-use borrow.Author.Rules.{rules}
 use Rattle.lines.proofs.inner.put_line.Goals as goal
 
 pub put_text-requires : goal.put_text-requires

@@ -1,11 +1,7 @@
-use mathlib.Core.Path.{◌≡◌, sym, ap}
+use mathlib.Core.Path.{◌≡◌}
 use Prim.Native.Nat.{◌-◌, ◌≤◌}
-use native.Mathlib.Omega.{arith}
-use native.Mathlib.Numerals.{add-one}
 use lib.ListN.{length}
 use Rattle.lines.specs.Lines.{Put, listing}
-use Rattle.lines.proofs.Texts.{then, put_as, put-none, listing-length, listing-more}
-use borrow.Author.Rules.{rules}
 use Rattle.lines.proofs.inner.put_listing.Given as goal
 
 abbrev pub invariant-loop-i : goal.invariant-loop-i

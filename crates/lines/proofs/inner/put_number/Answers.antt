@@ -1,5 +1,4 @@
 use Rattle.lines.proofs.Texts.{then}
-use borrow.Author.Rules.{rules}
 use Rattle.lines.proofs.inner.put_number.Goals as goal
 
 pub returns : goal.returns

@@ -1,11 +1,7 @@
 use mathlib.Core.Path.{◌≡◌, ◌∙◌}
 use Prim.Native.Nat.{◌+◌, ◌-◌, ◌≤◌}
-use native.Mathlib.Omega.{arith}
-use native.Mathlib.Numerals.{add-one}
-use lib.ListN.{length, length-set}
-use lib.Seq.{paste, paste-zero, paste-suc}
-use Rattle.lines.proofs.Texts.{pasted}
-use borrow.Author.Rules.{rules}
+use lib.ListN.{length}
+use lib.Seq.{paste}
 use Rattle.lines.proofs.inner.put_text.Given as goal
 
 abbrev pub invariant-loop-i : goal.invariant-loop-i

@@ -1,15 +1,8 @@
-use Rattle.lines.proofs.Texts.{tail-part, stops_at, ends_at}
-use lib.ListN.{get_or}
 use mathlib.Core.List.{◌∷◌}
-use mathlib.Core.Path.{◌≡◌, sym, ap, ◌∙◌}
+use mathlib.Core.Path.{◌≡◌, ◌∙◌}
 use Prim.Native.Nat.{◌+◌, ◌-◌, ◌≤◌, ◌<◌}
-use native.Mathlib.Omega.{arith}
-use native.Mathlib.Numerals.{add-one}
-use lib.ListN.{length, drop, length-drop}
-use lib.Seq.{drop-cons}
+use lib.ListN.{length, drop}
 use Rattle.lines.specs.Lines.{trimmed}
-use Rattle.lines.proofs.Texts.{trim-one, trim-more}
-use borrow.Author.Rules.{rules}
 use Rattle.lines.proofs.inner.trimmed_part.Given as goal
 
 abbrev pub invariant-loop-i : goal.invariant-loop-i

@@ -3,8 +3,7 @@ use mathlib.Core.Path.{◌≡◌, refl, sym, ◌∙◌}
 use mathlib.Core.List.{◌++◌}
 use Prim.Native.Nat.{◌+◌, ◌*◌, ◌-◌, ◌≤◌}
 use native.Mathlib.Omega.{arith}
-use lib.ListN.{length, take, length-set}
-use Rattle.records.specs.Fields.{floatsAt}
+use lib.ListN.{length, length-set}
 use Rattle.records.proofs.Floats.{floats-turn, floats-end}
 use borrow.Author.Rules.{rules}
 use Rattle.records.proofs.inner.floats_at.Goals as goal

@@ -1,12 +1,8 @@
-use native.Mathlib.Nat.{sub-zero}
-use mathlib.Core.Path.{◌≡◌, refl, sym, ◌∙◌}
+use mathlib.Core.Path.{◌≡◌, ◌∙◌}
 use mathlib.Core.List.{◌++◌}
 use Prim.Native.Nat.{◌+◌, ◌*◌, ◌-◌, ◌≤◌}
-use native.Mathlib.Omega.{arith}
-use lib.ListN.{length, take, length-set}
+use lib.ListN.{length, take}
 use Rattle.records.specs.Fields.{floatsAt}
-use Rattle.records.proofs.Floats.{floats-turn, floats-end}
-use borrow.Author.Rules.{rules}
 use Rattle.records.proofs.inner.floats_at.Given as goal
 
 abbrev pub invariant-loop-i : goal.invariant-loop-i

@@ -1,12 +1,9 @@
-use mathlib.Core.Path.{◌≡◌, refl, sym, ap, ◌∙◌}
-use native.Mathlib.Omega.{arith}
-use borrow.Author.Rules.{rules}
+use mathlib.Core.Path.{◌≡◌, ◌∙◌}
 use Prim.Native.Nat.{◌-◌}
 use lib.ListN.{length}
 use Rattle.steps.specs.Memory.{Memory, memoryOf}
 use Rattle.steps.specs.Steps.{state_of}
-use Rattle.session.specs.Runs.{frame_of}
-use Rattle.session.proofs.Feeds.{Going, going_start, rest-is, record_is, going-room, going-turn, ends-part, ends-full, ends-bad}
+use Rattle.session.proofs.Feeds.{Going}
 use Rattle.session.proofs.inner.feed.Given as goal
 
 abbrev pub invariant-loop-out : goal.invariant-loop-out

@@ -1,5 +1,4 @@
 use Rattle.session.proofs.Frames.{short-part, low-bad, high-bad, cut-part, whole_is}
-use borrow.Author.Rules.{rules}
 use Rattle.session.proofs.inner.front.Goals as goal
 
 pub returns-then-s-lt4 : goal.returns-then-s-lt4

@@ -2,7 +2,7 @@ use mathlib.Core.Path.{◌≡◌}
 use native.Mathlib.Omega.{arith}
 use borrow.Author.Rules.{rules}
 use Prim.Native.Nat.{◌+◌, ◌-◌, ◌≤◌}
-use lib.ListN.{length, take, drop, length-set}
+use lib.ListN.{length, length-set}
 use Rattle.session.proofs.Keeps.{kept_more, kept-rest}
 use Rattle.session.proofs.inner.keep.Goals as goal
 

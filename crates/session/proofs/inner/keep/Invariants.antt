@@ -1,9 +1,6 @@
 use mathlib.Core.Path.{◌≡◌}
-use native.Mathlib.Omega.{arith}
-use borrow.Author.Rules.{rules}
 use Prim.Native.Nat.{◌+◌, ◌-◌, ◌≤◌}
-use lib.ListN.{length, take, drop, length-set}
-use Rattle.session.proofs.Keeps.{kept_more, kept-rest}
+use lib.ListN.{length, take, drop}
 use Rattle.session.proofs.inner.keep.Given as goal
 
 abbrev pub invariant-loop-i : goal.invariant-loop-i

@@ -4,7 +4,6 @@ use lib.ListN.{take, replicate}
 use lib.Seq.{length-take-le}
 use Rattle.steps.specs.Memory.{memoryOf, zeroF, addedBy, addedOf}
 use Rattle.steps.proofs.Room.{taken, front_same}
-use borrow.Author.Rules.{rules}
 use Rattle.steps.proofs.inner.add.Goals as goal
 
 pub slice_bounds-add_front-end : goal.slice_bounds-add_front-end

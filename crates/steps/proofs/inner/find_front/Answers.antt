@@ -2,7 +2,6 @@ use mathlib.Core.Path.{◌∙◌}
 use native.Mathlib.Nat.{sub-zero}
 use Rattle.steps.specs.Memory.{memoryOf}
 use Rattle.steps.proofs.Cases.{find-is}
-use borrow.Author.Rules.{rules}
 use Rattle.steps.proofs.inner.find_front.Goals as goal
 
 pub returns : goal.returns

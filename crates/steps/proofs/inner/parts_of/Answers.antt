@@ -1,7 +1,6 @@
 use mathlib.Core.Path.{refl}
 use native.Mathlib.Omega.{arith}
 use Rattle.steps.proofs.Room.{few-bases, few-faces, few-vectors, few-layers}
-use borrow.Author.Rules.{rules}
 use Rattle.steps.proofs.inner.parts_of.Goals as goal
 
 pub overflow_mul-result : goal.overflow_mul-result

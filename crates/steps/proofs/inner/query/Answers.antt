@@ -7,7 +7,6 @@ use Rattle.steps.specs.Memory.{memoryOf, zeroF}
 use Rattle.steps.specs.Steps.{foundText}
 use Rattle.steps.proofs.Room.{taken, few_words, few-layers}
 use Rattle.steps.proofs.Cases.{found_as}
-use borrow.Author.Rules.{rules}
 use Rattle.steps.proofs.inner.query.Goals as goal
 
 pub overflow_mul-nl : goal.overflow_mul-nl

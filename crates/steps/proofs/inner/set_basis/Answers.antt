@@ -2,7 +2,6 @@ use native.Mathlib.Omega.{arith}
 use Prim.Native.Nat.{◌+◌, ◌*◌, ◌≤◌}
 use Rattle.steps.proofs.Room.{basis-room}
 use Rattle.steps.proofs.Cases.{basis-part, basis-is}
-use borrow.Author.Rules.{rules}
 use Rattle.steps.proofs.inner.set_basis.Goals as goal
 
 pub overflow_mul-a-2 : goal.overflow_mul-a-2
@@ -25,4 +24,4 @@ floats_at-requires c =
 pub returns : goal.returns
 returns c =
     let r : c.args.b * (c.args.g.d * c.args.g.d) + c.args.g.d * c.args.g.d ≤ 256 = basis-room c.args.b c.args.g.n c.args.g.d c.requires.1 c.requires.0.n c.requires.0.d in
-    basis-is c.args.bases.now (c.args.b * (c.args.g.d * c.args.g.d)) (c.args.g.d * c.args.g.d) c.args.s.now _ (omega (arith, c.requires.3)) c.Floats-at.ensures
+    basis-is c.args.bases.now (c.args.b * (c.args.g.d * c.args.g.d)) (c.args.g.d * c.args.g.d) c.args.s.now _ (omega (arith, c.requires.3)) c.floats_at.ensures

@@ -2,7 +2,6 @@ use native.Mathlib.Omega.{arith}
 use Rattle.steps.specs.Memory.{zeroF}
 use Rattle.steps.proofs.Room.{taken}
 use Rattle.steps.proofs.Cases.{vector-is}
-use borrow.Author.Rules.{rules}
 use Rattle.steps.proofs.inner.vector_of.Goals as goal
 
 pub slice_bounds-floats_at-end : goal.slice_bounds-floats_at-end
@@ -12,4 +11,4 @@ pub floats_at-requires : goal.floats_at-requires
 floats_at-requires c = omega (arith, taken c.args.d 8 zeroF c.requires.0, c.requires.1)
 
 pub returns : goal.returns
-returns c = vector-is c.args.d c.args.from c.args.s.now _ c.requires.0 c.Floats-at.ensures
+returns c = vector-is c.args.d c.args.from c.args.s.now _ c.requires.0 c.floats_at.ensures

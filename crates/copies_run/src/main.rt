@@ -3,6 +3,8 @@
 //   c MODE N X.. LENGTH BYTE..   copies N components out, into that many bytes
 //   b MODE LENGTH BYTE..         reads that many bytes in
 // A line that starts with another letter ends the run. A refusal, which is not in the record, is written as `refused` and its number.
+#![tactic(auto)]
+
 use recorded::inner::{
     bytes, floats, least, letter, number, show_bytes, show_floats, show_number, show_refusal, text,
 };

@@ -3,10 +3,16 @@
 //   a LEN WORD ..   the layers become LEN words
 //   b LEN WORD ..   so does the set
 //   LETTER CAP N K  a call with capacity CAP on N layers: m or with the set, g cardinalities, p top_k with search_k K, q top_k_number with search_k K
+#![tactic(auto)]
+
 ghost use Rattle.std.specs.Prelude.{◌+◌, ◌<◌, ◌≤◌, length};
 
 use counting_bitmap::{Chosen, Counts, Merged};
-use libc::{STDIN_FILENO, STDOUT_FILENO};
+
+// The descriptors of the standard input and the standard output.
+const STDIN_FILENO: i32 = 0;
+
+const STDOUT_FILENO: i32 = 1;
 
 // A number of the input, and the place past the byte after it.
 #[derive(Drop)]

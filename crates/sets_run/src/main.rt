@@ -4,10 +4,16 @@
 //   b LEN WORD ..   so does the second
 //   LETTER CAP X    a call with capacity CAP on the memories, as long as they are: c clear, n count, e is_empty, i add id X, h contains id X, w next from X,
 //                   o or, x xor, d and_not; these three show both memories
+#![tactic(auto)]
+
 ghost use Rattle.std.specs.Prelude.{◌+◌, ◌<◌, ◌≤◌, length};
 
 use bitmaps::{Asked, Counted, Walked};
-use libc::{STDIN_FILENO, STDOUT_FILENO};
+
+// The descriptors of the standard input and the standard output.
+const STDIN_FILENO: i32 = 0;
+
+const STDOUT_FILENO: i32 = 1;
 
 // A number of the input, and the place past the byte after it.
 #[derive(Drop)]

@@ -1,7 +1,12 @@
 // Runs the square root, lowering and widening on patterns whose answers came from the published Rust (README.md), and prints
 // each pattern with its answer. Standard input is records of five bytes: 0 for a root, 1 for lowering, 2 for widening; then the
 // pattern in four bytes, the lowest first.
-use libc::{STDIN_FILENO, STDOUT_FILENO};
+#![tactic(auto)]
+
+// The descriptors of the standard input and the standard output.
+const STDIN_FILENO: i32 = 0;
+
+const STDOUT_FILENO: i32 = 1;
 
 // A line: the pattern and the answer, each with so many hexadecimal digits.
 fn show(pattern: u64, digits: usize, answer: u64, width: usize) -> bool {

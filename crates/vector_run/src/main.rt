@@ -5,6 +5,8 @@
 //   4 orthonormalize: of the n floats, into a buffer that holds the m floats; the number is 65,536 times the rounds, and d
 //   5 find_face_idx, 6 spill_faces: of the n floats, the number is the spill
 // A line is the refusal's number, then what the call gives, then what it leaves in lent memory: floats as patterns, faces as numbers.
+#![tactic(auto)]
+
 ghost use Rattle.std.specs.Prelude.{◌≡◌, ◌≤◌, length, nat_abs};
 ghost use Rattle.vector.specs.Answer.{refusalOf};
 ghost use Rattle.vector_run.specs.Shown.{facesRefusalOf};

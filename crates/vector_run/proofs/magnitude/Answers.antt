@@ -1,5 +1,4 @@
 -- `vector_run::magnitude` meets its contract. Assumes nothing.
--- a face as the code reads it, narrow and wide
 use Prim.Native.Nat.{suc, ◌≤◌, ◌^◌}
 use mathlib.Core.Path.{◌≡◌, refl, sym, ◌∙◌, ap, subst}
 use mathlib.Core.Bool.{true, false}
@@ -14,6 +13,7 @@ use mir.Val.{SFits, to_z, of_z}
 use mir.ValLaws.{to_z-of_z}
 use Rattle.vector_run.proofs.magnitude.Goals as goal
 
+-- a face as the code reads it, narrow and wide
 abbrev narrow : ℤ → ℤ
 narrow z = to_z w32 (of_z w32 z)
 

@@ -1,5 +1,4 @@
 -- `inner::cardinalities` meets its contract: the first i layers are counted. Assumes nothing.
--- the next layer is within the layers
 use borrow.Author.Rules.{rules}
 use Prim.Native.Nat.{◌≤◌, ◌*◌, ◌+◌}
 use mathlib.Core.Path.{◌≡◌, refl, ◌∙◌}
@@ -11,6 +10,7 @@ use Rattle.counting_bitmap.proofs.Places.{counts-turn}
 use Rattle.counting_bitmap.proofs.inner.cardinalities.Goals as goal
 use Rattle.counting_bitmap.proofs.inner.cardinalities.Goals.{In-loop-i}
 
+-- the next layer is within the layers
 room : (c : In-loop-i) → (c.loop-i.i + 1) * c.args.w ≤ c.args.n * c.args.w
 room c = mul-le-mul_right _ (omega arith)
 

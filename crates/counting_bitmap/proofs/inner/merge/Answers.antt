@@ -1,5 +1,4 @@
 -- `inner::merge` meets its contract: the first i layers are merged, and where nothing is carried on the others stay. Assumes nothing.
--- the next layer is within the layers
 use borrow.Author.Rules.{rules}
 use Prim.Native.Nat.{◌≤◌, ◌-◌, ◌*◌, ◌+◌}
 use mathlib.Core.Path.{◌≡◌, refl, ap, sym, ◌∙◌}
@@ -16,6 +15,7 @@ use Rattle.counting_bitmap.proofs.Stop.{merged-stop}
 use Rattle.counting_bitmap.proofs.inner.merge.Goals as goal
 use Rattle.counting_bitmap.proofs.inner.merge.Goals.{In-loop-i}
 
+-- the next layer is within the layers
 room : (c : In-loop-i) → (c.loop-i.i + 1) * c.args.w ≤ c.args.n * c.args.w
 room c = mul-le-mul_right _ (omega arith)
 

@@ -9,16 +9,16 @@ use native.Mathlib.Nat.{mul-suc, mul_comm, mul-le-mul_left}
 use lib.Ieee.{Float}
 use lib.ListN.{length, take, drop, set, get_or, drop_of_length-le}
 use lib.Seq.{sets, take_all, take-suc, length-take-le, get_or-set_same, get_or-set_other}
-use Rattle.paper.specs.Geometry.{compSize}
-use Rattle.index_memory.specs.Memory.{faceBit}
+use Rattle.paper.specs.Geometry.{comp_size}
+use Rattle.index_memory.specs.Memory.{face_bit}
 use Rattle.index_memory.proofs.Places.{part-is}
 use Rattle.bitmaps.specs.Words.{inserted}
 use Rattle.basis.specs.Project.{projected}
-use Rattle.quantization.specs.Stored.{compBytes, lowerBytes}
+use Rattle.quantization.specs.Stored.{comp_bytes, lower_bytes}
 use Rattle.quantization.proofs.Sets.{sets-append}
 use Rattle.quantization.proofs.Stored.{length-lower}
-use Rattle.basis.specs.Bases.{projectionAt}
-use Rattle.adding.specs.Adding.{withFaces}
+use Rattle.basis.specs.Bases.{projection_at}
+use Rattle.adding.specs.Adding.{with_faces}
 
 -- ---- copying
 
@@ -31,8 +31,8 @@ module _ {A : Type 0} where
 
 -- ---- the slots
 
-pub projection-here : (d p b : ℕ) (bs v : List Float) → p ≡ b * (d * d) → projected (take (p + d * d - p) (drop p bs)) v ≡ projectionAt d bs v b
-unfolding projectionAt
+pub projection-here : (d p b : ℕ) (bs v : List Float) → p ≡ b * (d * d) → projected (take (p + d * d - p) (drop p bs)) v ≡ projection_at d bs v b
+unfolding projection_at
 projection-here d p b bs v e = rw (part-is b (d * d) p bs e)
 
 -- the next basis begins where this one ends
@@ -49,44 +49,44 @@ slot-more f slots b s l h e j lt = go (ℕ_discrete j b)
 
 -- ---- the face bits
 
-pub with-more : (d cap id : ℕ) (slot : ℕ → ℕ) (b : ℕ) (fs₀ fs : List ℕ) → fs ≡ withFaces d cap id slot b fs₀ → inserted fs (faceBit d cap b (slot b) id) ≡ withFaces d cap id slot (b + 1) fs₀
-unfolding withFaces
+pub with-more : (d cap id : ℕ) (slot : ℕ → ℕ) (b : ℕ) (fs₀ fs : List ℕ) → fs ≡ with_faces d cap id slot b fs₀ → inserted fs (face_bit d cap b (slot b) id) ≡ with_faces d cap id slot (b + 1) fs₀
+unfolding with_faces
 with-more d cap id slot b fs₀ fs p = rw (add-one, p) refl
 
-pub with-same : (d cap id : ℕ) (s t : ℕ → ℕ) (n : ℕ) (fs : List ℕ) → ((b : ℕ) → b < n → s b ≡ t b) → withFaces d cap id s n fs ≡ withFaces d cap id t n fs
-unfolding withFaces
+pub with-same : (d cap id : ℕ) (s t : ℕ → ℕ) (n : ℕ) (fs : List ℕ) → ((b : ℕ) → b < n → s b ≡ t b) → with_faces d cap id s n fs ≡ with_faces d cap id t n fs
+unfolding with_faces
 with-same d cap id s t zero fs h = refl
 with-same d cap id s t (suc b) fs h =
-    ap₂ (λ (r : List ℕ) (k : ℕ). inserted r (faceBit d cap b k id)) (with-same d cap id s t b fs (λ j l. h j (omega arith))) (h b (omega arith))
+    ap₂ (λ (r : List ℕ) (k : ℕ). inserted r (face_bit d cap b k id)) (with-same d cap id s t b fs (λ j l. h j (omega arith))) (h b (omega arith))
 
 -- ---- the stored bytes
 
-pub length-lowered : (mode : ℕ) (xs : List Float) → length (lowerBytes mode xs) ≡ compSize mode * length xs
-length-lowered mode xs = length-lower mode xs ∙ mul_comm (length xs) (compSize mode)
+pub length-lowered : (mode : ℕ) (xs : List Float) → length (lower_bytes mode xs) ≡ comp_size mode * length xs
+length-lowered mode xs = length-lower mode xs ∙ mul_comm (length xs) (comp_size mode)
 
-lowered-append : (mode : ℕ) (xs ys : List Float) → lowerBytes mode (xs ++ ys) ≡ lowerBytes mode xs ++ lowerBytes mode ys
-unfolding lowerBytes
+lowered-append : (mode : ℕ) (xs ys : List Float) → lower_bytes mode (xs ++ ys) ≡ lower_bytes mode xs ++ lower_bytes mode ys
+unfolding lower_bytes
 lowered-append mode [] ys = refl
 lowered-append mode (x ∷ xs) ys =
-    ap (λ (r : List ℕ). compBytes mode x ++ r) (lowered-append mode xs ys) ∙ sym (append_assoc (compBytes mode x) (lowerBytes mode xs) (lowerBytes mode ys))
+    ap (λ (r : List ℕ). comp_bytes mode x ++ r) (lowered-append mode xs ys) ∙ sym (append_assoc (comp_bytes mode x) (lower_bytes mode xs) (lower_bytes mode ys))
 
-lowered-one : (mode : ℕ) (x : Float) → lowerBytes mode (x ∷ []) ≡ compBytes mode x
-unfolding lowerBytes
-lowered-one mode x = append-nil (compBytes mode x)
+lowered-one : (mode : ℕ) (x : Float) → lower_bytes mode (x ∷ []) ≡ comp_bytes mode x
+unfolding lower_bytes
+lowered-one mode x = append-nil (comp_bytes mode x)
 
-pub lowered_none : (mode : ℕ) (l : List ℕ) (at : ℕ) (w : List Float) → l ≡ sets l at (lowerBytes mode (take 0 w))
-unfolding lowerBytes
+pub lowered_none : (mode : ℕ) (l : List ℕ) (at : ℕ) (w : List Float) → l ≡ sets l at (lower_bytes mode (take 0 w))
+unfolding lower_bytes
 lowered_none mode l at w = refl
 
 pub lowered-more : (mode : ℕ) (l : List ℕ) (at : ℕ) (w : List Float) (i : ℕ) (z : Float) → i < length w
-    → sets (sets l at (lowerBytes mode (take i w))) (at + compSize mode * i) (compBytes mode (get_or w i z)) ≡ sets l at (lowerBytes mode (take (i + 1) w))
+    → sets (sets l at (lower_bytes mode (take i w))) (at + comp_size mode * i) (comp_bytes mode (get_or w i z)) ≡ sets l at (lower_bytes mode (take (i + 1) w))
 lowered-more mode l at w i z h =
     let le : i ≤ length w = omega arith in
-    let e : length (lowerBytes mode (take i w)) ≡ compSize mode * i = length-lowered mode (take i w) ∙ ap (λ (k : ℕ). compSize mode * k) (length-take-le i w le) in
-    let t : lowerBytes mode (take (i + 1) w) ≡ lowerBytes mode (take i w) ++ compBytes mode (get_or w i z) =
-    rw (add-one, take-suc w i z h) (lowered-append mode (take i w) (get_or w i z ∷ []) ∙ ap (λ (r : List ℕ). lowerBytes mode (take i w) ++ r) (lowered-one mode (get_or w i z))) in
-    sym (ap (λ (r : List ℕ). sets l at r) t ∙ sets-append l (lowerBytes mode (take i w)) (compBytes mode (get_or w i z)) at
-    ∙ ap (λ (k : ℕ). sets (sets l at (lowerBytes mode (take i w))) (at + k) (compBytes mode (get_or w i z))) e)
+    let e : length (lower_bytes mode (take i w)) ≡ comp_size mode * i = length-lowered mode (take i w) ∙ ap (λ (k : ℕ). comp_size mode * k) (length-take-le i w le) in
+    let t : lower_bytes mode (take (i + 1) w) ≡ lower_bytes mode (take i w) ++ comp_bytes mode (get_or w i z) =
+    rw (add-one, take-suc w i z h) (lowered-append mode (take i w) (get_or w i z ∷ []) ∙ ap (λ (r : List ℕ). lower_bytes mode (take i w) ++ r) (lowered-one mode (get_or w i z))) in
+    sym (ap (λ (r : List ℕ). sets l at r) t ∙ sets-append l (lower_bytes mode (take i w)) (comp_bytes mode (get_or w i z)) at
+    ∙ ap (λ (k : ℕ). sets (sets l at (lower_bytes mode (take i w))) (at + k) (comp_bytes mode (get_or w i z))) e)
 
 pub room : (at size i n top : ℕ) → i < n → at + size * n ≤ top → at + size * i + size ≤ top
 room at size i n top h r = omega (arith, mul-le-mul_left size h, mul-suc size i)

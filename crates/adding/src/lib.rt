@@ -4,11 +4,11 @@
 ghost use Rattle.std.specs.Prelude.{◌≡◌, ◌+◌, ◌*◌, ◌≤◌, eqb, length, get_or};
 ghost use Rattle.std.proofs.lemmas.List.Edits.{sets};
 ghost use Rattle.paper.specs.Choice.{pick};
-ghost use Rattle.paper.specs.Geometry.{geo, compSize};
-ghost use Rattle.index_memory.specs.Memory.{ixOf};
-ghost use Rattle.vector.specs.Norm.{normNumber, normalized};
-ghost use Rattle.quantization.specs.Stored.{lowerBytes};
-ghost use Rattle.adding.specs.Adding.{lentOk, addShape, lateRefusal, withFaces, withVector, writtenIx, addedIx, added, addOf, SlotArgs, SlotsAre, FaceArgs, VecArgs, WriteArgs, Shaped};
+ghost use Rattle.paper.specs.Geometry.{geo, comp_size};
+ghost use Rattle.index_memory.specs.Memory.{ix_of};
+ghost use Rattle.vector.specs.Norm.{norm_number, normalized};
+ghost use Rattle.quantization.specs.Stored.{lower_bytes};
+ghost use Rattle.adding.specs.Adding.{lent_ok, add_shape, late_refusal, with_faces, with_vector, written_ix, added_ix, added, add_of, SlotArgs, SlotsAre, FaceArgs, VecArgs, WriteArgs, Shaped};
 ghost use Rattle.adding.specs.Laws.{Laws};
 
 // Refusal 7 or 0, and for 0 the slot of a vector's face in each basis.
@@ -23,7 +23,7 @@ struct Slots {
 // Whether bases, work memory and vector have their lengths.
 fn lent_lengths_ok(d: usize, n: usize, bases: usize, work: usize, v: usize) -> bool
     requires { (d ≤ 1024) × (n ≤ 32) }
-    ensures { result ≡ lentOk d n bases work v }
+    ensures { result ≡ lent_ok d n bases work v }
 {
     if !index_memory::inner::bases_length_ok(d, n, bases) {
         return false;
@@ -48,7 +48,7 @@ fn shape_refusal(
     work: usize,
     v: usize,
 ) -> u32
-    ensures { result ≡ addShape (geo d n cap mode) id bases faces marks vectors work v }
+    ensures { result ≡ add_shape (geo d n cap mode) id bases faces marks vectors work v }
 {
     let own = index_memory::own_refusal(d, n, cap, mode, faces, marks, vectors);
     if own != 0 {
@@ -77,7 +77,7 @@ fn copy_into(v: &[f32], work: &mut [f32])
 // The vector normalised, in the work memory; or the refusal of normalising.
 fn normalize_into(v: &[f32], work: &mut [f32]) -> u32
     requires { length work.old ≡ length v.now }
-    ensures { (result ≡ normNumber v.now) × (work.new ≡ normalized v.now) }
+    ensures { (result ≡ norm_number v.now) × (work.new ≡ normalized v.now) }
 {
     copy_into(v, work);
     vector::normalize(work)
@@ -111,7 +111,7 @@ fn slots_of(bases: &[f32], v: &[f32], work: &mut [f32], d: usize, n: usize) -> S
 // Puts the id into the face set of its slot, for each basis.
 fn add_to_bitmaps(faces: &mut [u64], slots: [usize; 32], d: usize, n: usize, cap: usize, id: usize)
     requires { FaceArgs d n cap id (length faces.old) slots }
-    ensures { faces.new ≡ withFaces d cap id (λ b. get_or slots b 0) n faces.old }
+    ensures { faces.new ≡ with_faces d cap id (λ b. get_or slots b 0) n faces.old }
 {
     let mut b = 0;
     while b < n {
@@ -122,8 +122,8 @@ fn add_to_bitmaps(faces: &mut [u64], slots: [usize; 32], d: usize, n: usize, cap
 
 // Stores components, lowered, from byte `at` on.
 fn put_components(vectors: &mut [u8], work: &[f32], at: usize, mode: usize)
-    requires { at + compSize mode * length work.now ≤ length vectors.old }
-    ensures { vectors.new ≡ sets vectors.old at (lowerBytes mode work.now) }
+    requires { at + comp_size mode * length work.now ≤ length vectors.old }
+    ensures { vectors.new ≡ sets vectors.old at (lower_bytes mode work.now) }
 {
     let size = paper::component_size(mode);
     let mut i = 0;
@@ -144,7 +144,7 @@ fn put_vector(
     id: usize,
 )
     requires { VecArgs d cap mode id (length vectors.old) (length v.now) (length work.old) }
-    ensures { vectors.new ≡ withVector d mode id v.now vectors.old }
+    ensures { vectors.new ≡ with_vector d mode id v.now vectors.old }
 {
     normalize_into(v, work);
     let size = paper::component_size(mode);
@@ -166,7 +166,7 @@ fn write(
     id: usize,
 )
     requires { WriteArgs d n cap mode id (length faces.old) (length marks.old) (length vectors.old) (length work.old) (length v.now) slots }
-    ensures { ixOf faces.new marks.new vectors.new ≡ writtenIx (geo d n cap mode) (λ b. get_or slots b 0) id v.now (ixOf faces.old marks.old vectors.old) }
+    ensures { ix_of faces.new marks.new vectors.new ≡ written_ix (geo d n cap mode) (λ b. get_or slots b 0) id v.now (ix_of faces.old marks.old vectors.old) }
 {
     add_to_bitmaps(faces, slots, d, n, cap, id);
     bitmaps::inner::add(marks, id);
@@ -188,7 +188,7 @@ fn check_and_write(
     id: usize,
 ) -> u32
     requires { Shaped (geo d n cap mode) id (length bases.now) (length faces.old) (length marks.old) (length vectors.old) (length work.old) (length v.now) }
-    ensures { (result ≡ lateRefusal d n bases.now v.now) × (ixOf faces.new marks.new vectors.new ≡ pick (eqb result 0) (addedIx (geo d n cap mode) bases.now id v.now (ixOf faces.old marks.old vectors.old)) (ixOf faces.old marks.old vectors.old)) }
+    ensures { (result ≡ late_refusal d n bases.now v.now) × (ix_of faces.new marks.new vectors.new ≡ pick (eqb result 0) (added_ix (geo d n cap mode) bases.now id v.now (ix_of faces.old marks.old vectors.old)) (ix_of faces.old marks.old vectors.old)) }
 {
     if normalize_into(v, work) != 0 {
         return paper::NO_NORM;
@@ -220,7 +220,7 @@ pub fn add_vector(
     mode: usize,
     id: usize,
 ) -> u32
-    ensures { added result (ixOf faces.new marks.new vectors.new) work.new ≡ addOf (geo d n cap mode) bases.now id v.now (ixOf faces.old marks.old vectors.old) work.old }
+    ensures { added result (ix_of faces.new marks.new vectors.new) work.new ≡ add_of (geo d n cap mode) bases.now id v.now (ix_of faces.old marks.old vectors.old) work.old }
 {
     let s = shape_refusal(
         d,

@@ -8,21 +8,21 @@ use lib.Dec.{leb, eqb}
 use lib.Ieee.{Float}
 use lib.ListN.{length}
 use borrow.Author.Tests.{ne_eqb, leb-true, eqb-true, eqb-false}
-use Rattle.paper.specs.Geometry.{Geo, geoOk, vectorBytes}
+use Rattle.paper.specs.Geometry.{Geo, geo_ok, vector_bytes}
 use Rattle.paper.proofs.Choice.{refuse-ok, refuse-rest}
 use Rattle.paper.proofs.Geometry.{geo-facts}
-use Rattle.index_memory.specs.Memory.{storeOk, slotBytes}
+use Rattle.index_memory.specs.Memory.{store_ok, slot_bytes}
 use Rattle.index_memory.proofs.Lengths.{store-sized}
 use Rattle.paper.specs.Choice.{pick}
 use Rattle.result.specs.declared.Fed.{Fed}
-use Rattle.result.specs.Ranked.{larger, inOrder}
-use Rattle.result.specs.Sets.{entriesOf}
+use Rattle.result.specs.Ranked.{larger, in_order}
+use Rattle.result.specs.Sets.{entries_of}
 use Rattle.result.proofs.Keeps.{Sound, sound_empty}
 use Rattle.bitmaps.specs.Words.{size}
 use Rattle.bitmaps.proofs.Digits.{Words}
-use Rattle.backend_memory.specs.Ranking.{refused, similarityOf, rank_of, nearestOf, RankArgs}
+use Rattle.backend_memory.specs.Ranking.{refused, similarity_of, rank_of, nearest_of, RankArgs}
 use Rattle.backend_memory.specs.Listed.{Each, TrueEntry}
-use Rattle.backend_memory.specs.Scan.{scanRefusal, scanOf}
+use Rattle.backend_memory.specs.Scan.{scan_refusal, scan_of}
 use Rattle.backend_memory.proofs.Counts.{nearest-sound, scan-ranks, rank-checked, rank-order}
 use Rattle.backend_memory.proofs.Listed.{rank-listed}
 
@@ -36,23 +36,23 @@ not4 : ◌≡◌ {A = ℕ} 4 0 → ⊥
 not4 e = omega arith
 
 -- the stored bytes, by the words of the marks and the length of the target
-pub bytes-by : (lv d cap mode lm lt : ℕ) → lv ≡ vectorBytes d cap mode → cap ≡ lm * 64 → lt ≡ d → lv ≡ lm * 64 * slotBytes lt mode
-bytes-by lv d cap mode lm lt e q p = e ∙ ap (λ (z : ℕ). z * slotBytes d mode) q ∙ ap (λ (z : ℕ). lm * 64 * slotBytes z mode) (sym p)
+pub bytes-by : (lv d cap mode lm lt : ℕ) → lv ≡ vector_bytes d cap mode → cap ≡ lm * 64 → lt ≡ d → lv ≡ lm * 64 * slot_bytes lt mode
+bytes-by lv d cap mode lm lt e q p = e ∙ ap (λ (z : ℕ). z * slot_bytes d mode) q ∙ ap (λ (z : ℕ). lm * 64 * slot_bytes z mode) (sym p)
 
 module _ (g : Geo) (ms vs : List ℕ) (t : List Float) (k : ℕ) where
-  pub scan-refused : (num : ℕ) (r : Fed) → num ≡ scanRefusal g (length ms) (length vs) t k → (num ≡ 0 → ⊥) → r ≡ refused num → r ≡ scanOf g ms vs t k
-  unfolding scanOf
+  pub scan-refused : (num : ℕ) (r : Fed) → num ≡ scan_refusal g (length ms) (length vs) t k → (num ≡ 0 → ⊥) → r ≡ refused num → r ≡ scan_of g ms vs t k
+  unfolding scan_of
   scan-refused num r e h q = rw (← e, ne_eqb num 0 h) q
 
-  pub scan-done : (r : Fed) → scanRefusal g (length ms) (length vs) t k ≡ 0 → r ≡ nearestOf g.mode k ms vs t → r ≡ scanOf g ms vs t k
-  unfolding scanOf
+  pub scan-done : (r : Fed) → scan_refusal g (length ms) (length vs) t k ≡ 0 → r ≡ nearest_of g.mode k ms vs t → r ≡ scan_of g ms vs t k
+  unfolding scan_of
   scan-done r e q = rw e q
 
-  pub scan-args : scanRefusal g (length ms) (length vs) t k ≡ 0 → RankArgs g.mode k (length ms) (length ms) (length vs) (length t)
-  unfolding scanRefusal
+  pub scan-args : scan_refusal g (length ms) (length vs) t k ≡ 0 → RankArgs g.mode k (length ms) (length ms) (length vs) (length t)
+  unfolding scan_refusal
   scan-args e =
-      let ok1 = geoOk g.d g.n g.cap g.mode in
-      let ok2 = storeOk g.d g.cap g.mode (length ms) (length vs) in
+      let ok1 = geo_ok g.d g.n g.cap g.mode in
+      let ok2 = store_ok g.d g.cap g.mode (length ms) (length vs) in
       let ok3 = eqb (length t) g.d in
       let r1 = refuse-rest ok1 1 _ not1 e in
       let r2 = refuse-rest ok2 2 _ not2 r1 in
@@ -73,37 +73,37 @@ module _ (g : Geo) (ms vs : List ℕ) (t : List Float) (k : ℕ) where
 -- ---- what a scan answers
 
 -- whatever it answers, its set is well formed
-pub scan-sound : (g : Geo) (ms vs : List ℕ) (t : List Float) (k : ℕ) → Sound (scanOf g ms vs t k).set
-unfolding scanOf
-scan-sound g ms vs t k = by (eqb (scanRefusal g (length ms) (length vs) t k) 0) (λ (h : eqb (scanRefusal g (length ms) (length vs) t k) 0 ≡ true). nearest-sound g.mode k ms vs t (scan-args g ms vs t k (eqb-true _ 0 h)).k-high) refl
+pub scan-sound : (g : Geo) (ms vs : List ℕ) (t : List Float) (k : ℕ) → Sound (scan_of g ms vs t k).set
+unfolding scan_of
+scan-sound g ms vs t k = by (eqb (scan_refusal g (length ms) (length vs) t k) 0) (λ (h : eqb (scan_refusal g (length ms) (length vs) t k) 0 ≡ true). nearest-sound g.mode k ms vs t (scan-args g ms vs t k (eqb-true _ 0 h)).k-high) refl
   where
-    by : (b : Bool) → (eqb (scanRefusal g (length ms) (length vs) t k) 0 ≡ true → Sound (nearestOf g.mode k ms vs t).set) → eqb (scanRefusal g (length ms) (length vs) t k) 0 ≡ b
-        → Sound (pick b (nearestOf g.mode k ms vs t) (refused (scanRefusal g (length ms) (length vs) t k))).set
+    by : (b : Bool) → (eqb (scan_refusal g (length ms) (length vs) t k) 0 ≡ true → Sound (nearest_of g.mode k ms vs t).set) → eqb (scan_refusal g (length ms) (length vs) t k) 0 ≡ b
+        → Sound (pick b (nearest_of g.mode k ms vs t) (refused (scan_refusal g (length ms) (length vs) t k))).set
     by true go h = go h
     by false go h = sound_empty 0 (omega arith)
 
 -- an accepted scan ranked every present id
-pub scan-accepted : (g : Geo) (ms vs : List ℕ) (t : List Float) (k : ℕ) → (scanOf g ms vs t k).refusal ≡ 0 → scanOf g ms vs t k ≡ nearestOf g.mode k ms vs t
-unfolding scanOf
-scan-accepted g ms vs t k e = by (scanRefusal g (length ms) (length vs) t k) (eqb (scanRefusal g (length ms) (length vs) t k) 0) refl e
+pub scan-accepted : (g : Geo) (ms vs : List ℕ) (t : List Float) (k : ℕ) → (scan_of g ms vs t k).refusal ≡ 0 → scan_of g ms vs t k ≡ nearest_of g.mode k ms vs t
+unfolding scan_of
+scan-accepted g ms vs t k e = by (scan_refusal g (length ms) (length vs) t k) (eqb (scan_refusal g (length ms) (length vs) t k) 0) refl e
   where
-    by : (num : ℕ) (b : Bool) → eqb num 0 ≡ b → (pick b (nearestOf g.mode k ms vs t) (refused num)).refusal ≡ 0 → pick b (nearestOf g.mode k ms vs t) (refused num) ≡ nearestOf g.mode k ms vs t
+    by : (num : ℕ) (b : Bool) → eqb num 0 ≡ b → (pick b (nearest_of g.mode k ms vs t) (refused num)).refusal ≡ 0 → pick b (nearest_of g.mode k ms vs t) (refused num) ≡ nearest_of g.mode k ms vs t
     by num true h e = refl
     by num false h e = absurd (eqb-false num 0 h e)
 
 -- so what it lists and counts is the ranking's
-module _ (g : Geo) (ms vs : List ℕ) (t : List Float) (k : ℕ) (e : (scanOf g ms vs t k).refusal ≡ 0) where
-  same : scanOf g ms vs t k ≡ rank_of g.mode k ms ms vs t
+module _ (g : Geo) (ms vs : List ℕ) (t : List Float) (k : ℕ) (e : (scan_of g ms vs t k).refusal ≡ 0) where
+  same : scan_of g ms vs t k ≡ rank_of g.mode k ms ms vs t
   same = scan-accepted g ms vs t k e ∙ sym (scan-ranks g.mode k ms vs t)
 
   good : (rank_of g.mode k ms ms vs t).refusal ≡ 0
   good = ap (λ (r : Fed). r.refusal) (sym same) ∙ e
 
-  pub scan-checked : Words ms → (scanOf g ms vs t k).set.checked ≡ size ms
+  pub scan-checked : Words ms → (scan_of g ms vs t k).set.checked ≡ size ms
   scan-checked w = ap (λ (r : Fed). r.set.checked) same ∙ rank-checked g.mode k ms ms vs t w good
 
-  pub scan-listed : Each (TrueEntry ms ms (similarityOf g.mode vs t)) (entriesOf (scanOf g ms vs t k).set)
-  scan-listed = subst (λ (r : Fed). Each (TrueEntry ms ms (similarityOf g.mode vs t)) (entriesOf r.set)) (sym same) (rank-listed g.mode k ms ms vs t good)
+  pub scan-listed : Each (TrueEntry ms ms (similarity_of g.mode vs t)) (entries_of (scan_of g ms vs t k).set)
+  scan-listed = subst (λ (r : Fed). Each (TrueEntry ms ms (similarity_of g.mode vs t)) (entries_of r.set)) (sym same) (rank-listed g.mode k ms ms vs t good)
 
-  pub scan-order : inOrder larger (entriesOf (scanOf g ms vs t k).set) ≡ true
-  scan-order = ap (λ (r : Fed). inOrder larger (entriesOf r.set)) same ∙ rank-order g.mode k ms ms vs t good
+  pub scan-order : in_order larger (entries_of (scan_of g ms vs t k).set) ≡ true
+  scan-order = ap (λ (r : Fed). in_order larger (entries_of r.set)) same ∙ rank-order g.mode k ms ms vs t good

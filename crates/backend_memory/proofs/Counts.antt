@@ -12,42 +12,42 @@ use Rattle.bitmaps.specs.Words.{has, holds, size}
 use Rattle.bitmaps.specs.Walk.{ids_in, ids_of, keep}
 use Rattle.bitmaps.proofs.Digits.{Words}
 use Rattle.bitmaps.proofs.Ids.{ids-size}
-use Rattle.result.specs.Ranked.{larger, inOrder}
-use Rattle.result.specs.Sets.{emptySet, entriesOf, fedSet, fedAll}
+use Rattle.result.specs.Ranked.{larger, in_order}
+use Rattle.result.specs.Sets.{empty_set, entries_of, fed_set, fed_all}
 use Rattle.result.specs.declared.ResultSet.{ResultSet}
 use Rattle.result.specs.declared.Fed.{Fed}
 use Rattle.result.proofs.Keeps.{empty-checked, Sound, sound_empty, sound-fed}
 use Rattle.result.proofs.Grown.{all-checked, grown-order}
-use Rattle.backend_memory.specs.Ranking.{refused, scored, ranking, rank_of, feeding, nearestOf, similarityOf}
+use Rattle.backend_memory.specs.Ranking.{refused, scored, ranking, rank_of, feeding, nearest_of, similarity_of}
 
 -- the first id of an accepted ranking has its mark, its score is a number, and it is fed before the rest
 pub record First (ms : List ℕ) (f : ℕ → Float) (s : ResultSet) (i : ℕ) (is : List ℕ) : Type 0 where
   pub marked : holds ms i ≡ true
   pub number : is_nan (f i) ≡ false
-  pub rest : ranking ms f s (i ∷ is) ≡ ranking ms f (fedSet s (scored f i)) is
+  pub rest : ranking ms f s (i ∷ is) ≡ ranking ms f (fed_set s (scored f i)) is
 
 pub first_of : (ms : List ℕ) (f : ℕ → Float) (s : ResultSet) (i : ℕ) (is : List ℕ) → (ranking ms f s (i ∷ is)).refusal ≡ 0 → First ms f s i is
 unfolding ranking
 first_of ms f s i is e = by (holds ms i) (is_nan (f i)) refl refl e
   where
-    by : (m n : Bool) → holds ms i ≡ m → is_nan (f i) ≡ n → (pick m (pick n (refused 10) (ranking ms f (fedSet s (scored f i)) is)) (refused 9)).refusal ≡ 0 → First ms f s i is
+    by : (m n : Bool) → holds ms i ≡ m → is_nan (f i) ≡ n → (pick m (pick n (refused 10) (ranking ms f (fed_set s (scored f i)) is)) (refused 9)).refusal ≡ 0 → First ms f s i is
     by false n p q e = absurd (omega arith)
     by true true p q e = absurd (omega arith)
     by true false p q e = record { marked = p; number = q; rest = rw (p, q) }
 
-ranking-fed : (ms : List ℕ) (f : ℕ → Float) (s : ResultSet) (is : List ℕ) → (ranking ms f s is).refusal ≡ 0 → (ranking ms f s is).set ≡ fedAll s (map (scored f) is)
+ranking-fed : (ms : List ℕ) (f : ℕ → Float) (s : ResultSet) (is : List ℕ) → (ranking ms f s is).refusal ≡ 0 → (ranking ms f s is).set ≡ fed_all s (map (scored f) is)
 unfolding ranking
 ranking-fed ms f s [] e = refl
 ranking-fed ms f s (i ∷ is) e =
     let a = first_of ms f s i is e in
-    let e2 : (ranking ms f (fedSet s (scored f i)) is).refusal ≡ 0 = ap (λ (r : Fed). r.refusal) (sym a.rest) ∙ e in
-    ap (λ (r : Fed). r.set) a.rest ∙ ranking-fed ms f (fedSet s (scored f i)) is e2
+    let e2 : (ranking ms f (fed_set s (scored f i)) is).refusal ≡ 0 = ap (λ (r : Fed). r.refusal) (sym a.rest) ∙ e in
+    ap (λ (r : Fed). r.set) a.rest ∙ ranking-fed ms f (fed_set s (scored f i)) is e2
 
 -- an accepted ranking is the set's ids, rising, each fed with its score
 pub rank-fed : (mode k : ℕ) (ids ms vs : List ℕ) (t : List Float) → (rank_of mode k ids ms vs t).refusal ≡ 0
-    → (rank_of mode k ids ms vs t).set ≡ fedAll (emptySet k) (map (scored (similarityOf mode vs t)) (ids_of ids))
+    → (rank_of mode k ids ms vs t).set ≡ fed_all (empty_set k) (map (scored (similarity_of mode vs t)) (ids_of ids))
 unfolding rank_of
-rank-fed mode k ids ms vs t e = ranking-fed ms (similarityOf mode vs t) (emptySet k) (ids_of ids) e
+rank-fed mode k ids ms vs t e = ranking-fed ms (similarity_of mode vs t) (empty_set k) (ids_of ids) e
 
 map-long : {A : Type 0} (f : ℕ → A) (is : List ℕ) → length (map f is) ≡ length is
 map-long f [] = refl
@@ -57,15 +57,15 @@ map-long f (i ∷ is) = ap suc (map-long f is)
 pub rank-checked : (mode k : ℕ) (ids ms vs : List ℕ) (t : List Float) → Words ids
     → (rank_of mode k ids ms vs t).refusal ≡ 0 → (rank_of mode k ids ms vs t).set.checked ≡ size ids
 rank-checked mode k ids ms vs t w e =
-    let fed = map (scored (similarityOf mode vs t)) (ids_of ids) in
+    let fed = map (scored (similarity_of mode vs t)) (ids_of ids) in
     let c = ap (λ (s : ResultSet). s.checked) (rank-fed mode k ids ms vs t e) in
-    omega (arith, c, all-checked (emptySet k) fed, empty-checked k, map-long (scored (similarityOf mode vs t)) (ids_of ids), ids-size ids w)
+    omega (arith, c, all-checked (empty_set k) fed, empty-checked k, map-long (scored (similarity_of mode vs t)) (ids_of ids), ids-size ids w)
 
 -- and its scores never rise along the list
 pub rank-order : (mode k : ℕ) (ids ms vs : List ℕ) (t : List Float) → (rank_of mode k ids ms vs t).refusal ≡ 0
-    → inOrder larger (entriesOf (rank_of mode k ids ms vs t).set) ≡ true
+    → in_order larger (entries_of (rank_of mode k ids ms vs t).set) ≡ true
 rank-order mode k ids ms vs t e =
-    ap (λ (s : ResultSet). inOrder larger (entriesOf s)) (rank-fed mode k ids ms vs t e) ∙ grown-order k (map (scored (similarityOf mode vs t)) (ids_of ids))
+    ap (λ (s : ResultSet). in_order larger (entries_of s)) (rank-fed mode k ids ms vs t e) ∙ grown-order k (map (scored (similarity_of mode vs t)) (ids_of ids))
 
 -- ---- a scan
 
@@ -74,10 +74,10 @@ all-marked : (ms : List ℕ) (f : ℕ → Float) (m from : ℕ) (s : ResultSet) 
 unfolding ids_in ranking feeding
 all-marked ms f zero from s = refl
 all-marked ms f (suc m) from s =
-    by (has ms from) refl (all-marked ms f m (suc from) s) (all-marked ms f m (suc from) (fedSet s (scored f from)))
+    by (has ms from) refl (all-marked ms f m (suc from) s) (all-marked ms f m (suc from) (fed_set s (scored f from)))
   where
     by : (d : ℕ) → has ms from ≡ d → ranking ms f s (ids_in m (suc from) ms) ≡ feeding f s (ids_in m (suc from) ms)
-        → ranking ms f (fedSet s (scored f from)) (ids_in m (suc from) ms) ≡ feeding f (fedSet s (scored f from)) (ids_in m (suc from) ms)
+        → ranking ms f (fed_set s (scored f from)) (ids_in m (suc from) ms) ≡ feeding f (fed_set s (scored f from)) (ids_in m (suc from) ms)
         → ranking ms f s (keep d from (ids_in m (suc from) ms)) ≡ feeding f s (keep d from (ids_in m (suc from) ms))
     by zero h p q = p
     by (suc d) h p q =
@@ -85,29 +85,29 @@ all-marked ms f (suc m) from s =
         rw (eq-eqb (has ms from) 1 one, q)
 
 -- a scan is the ranking of the marks by themselves
-pub scan-ranks : (mode k : ℕ) (ms vs : List ℕ) (t : List Float) → rank_of mode k ms ms vs t ≡ nearestOf mode k ms vs t
-unfolding rank_of nearestOf
-scan-ranks mode k ms vs t = all-marked ms (similarityOf mode vs t) (length ms * 64) 0 (emptySet k)
+pub scan-ranks : (mode k : ℕ) (ms vs : List ℕ) (t : List Float) → rank_of mode k ms ms vs t ≡ nearest_of mode k ms vs t
+unfolding rank_of nearest_of
+scan-ranks mode k ms vs t = all-marked ms (similarity_of mode vs t) (length ms * 64) 0 (empty_set k)
 
 -- ---- whatever a ranking answers, its set is well formed
 
-none-sound : Sound (emptySet 0)
+none-sound : Sound (empty_set 0)
 none-sound = sound_empty 0 (omega arith)
 
 ranking-sound : (ms : List ℕ) (f : ℕ → Float) (s : ResultSet) (is : List ℕ) → Sound s → Sound (ranking ms f s is).set
 unfolding ranking
 ranking-sound ms f s [] h = h
-ranking-sound ms f s (i ∷ is) h = by (holds ms i) (is_nan (f i)) (λ (q : is_nan (f i) ≡ false). ranking-sound ms f (fedSet s (scored f i)) is (sound-fed s (scored f i) h q)) refl
+ranking-sound ms f s (i ∷ is) h = by (holds ms i) (is_nan (f i)) (λ (q : is_nan (f i) ≡ false). ranking-sound ms f (fed_set s (scored f i)) is (sound-fed s (scored f i) h q)) refl
   where
-    by : (m n : Bool) → (is_nan (f i) ≡ false → Sound (ranking ms f (fedSet s (scored f i)) is).set) → is_nan (f i) ≡ n
-        → Sound (pick m (pick n (refused 10) (ranking ms f (fedSet s (scored f i)) is)) (refused 9)).set
+    by : (m n : Bool) → (is_nan (f i) ≡ false → Sound (ranking ms f (fed_set s (scored f i)) is).set) → is_nan (f i) ≡ n
+        → Sound (pick m (pick n (refused 10) (ranking ms f (fed_set s (scored f i)) is)) (refused 9)).set
     by false n go q = none-sound
     by true true go q = none-sound
     by true false go q = go q
 
 pub rank-sound : (mode k : ℕ) (ids ms vs : List ℕ) (t : List Float) → k ≤ 256 → Sound (rank_of mode k ids ms vs t).set
 unfolding rank_of
-rank-sound mode k ids ms vs t h = ranking-sound ms (similarityOf mode vs t) (emptySet k) (ids_of ids) (sound_empty k h)
+rank-sound mode k ids ms vs t h = ranking-sound ms (similarity_of mode vs t) (empty_set k) (ids_of ids) (sound_empty k h)
 
-pub nearest-sound : (mode k : ℕ) (ms vs : List ℕ) (t : List Float) → k ≤ 256 → Sound (nearestOf mode k ms vs t).set
+pub nearest-sound : (mode k : ℕ) (ms vs : List ℕ) (t : List Float) → k ≤ 256 → Sound (nearest_of mode k ms vs t).set
 nearest-sound mode k ms vs t h = subst (λ (r : Fed). Sound r.set) (scan-ranks mode k ms vs t) (rank-sound mode k ms ms vs t h)

@@ -11,11 +11,11 @@ use Rattle.paper.specs.Choice.{pick}
 use Rattle.bitmaps.specs.Words.{has, holds}
 use Rattle.bitmaps.specs.Walk.{ids_in, ids_of, keep}
 use Rattle.result.specs.Ranked.{Entry, larger, placed, stays, fed}
-use Rattle.result.specs.Sets.{entriesOf, emptySet, fedSet}
+use Rattle.result.specs.Sets.{entries_of, empty_set, fed_set}
 use Rattle.result.specs.declared.ResultSet.{ResultSet}
 use Rattle.result.specs.declared.Fed.{Fed}
 use Rattle.result.proofs.Keeps.{entries-fed, entries_none}
-use Rattle.backend_memory.specs.Ranking.{scored, ranking, rank_of, similarityOf}
+use Rattle.backend_memory.specs.Ranking.{scored, ranking, rank_of, similarity_of}
 use Rattle.backend_memory.specs.Listed.{Each, none, more, TrueEntry}
 use Rattle.backend_memory.proofs.Counts.{first_of}
 
@@ -46,8 +46,8 @@ module _ (P : Entry → Type 0) (e : Entry) (p : P e) where
   unfolding fed
   each_fed before k es q = each-pick (stays before k e es) es (take k (placed before e es)) q (each_take k (placed before e es) (each_placed before es q))
 
-  each-fed-set : (s : ResultSet) → Each P (entriesOf s) → Each P (entriesOf (fedSet s e))
-  each-fed-set s q = rw (entries-fed s e) (each_fed larger s.k (entriesOf s) q)
+  each-fed-set : (s : ResultSet) → Each P (entries_of s) → Each P (entries_of (fed_set s e))
+  each-fed-set s q = rw (entries-fed s e) (each_fed larger s.k (entries_of s) q)
 
 -- ---- an accepted ranking
 
@@ -61,21 +61,21 @@ ids-inside (suc m) from s = by (has s from) refl (ids-inside m (suc from) s)
     by zero h q = q
     by (suc d) h q = let one : has s from ≡ 1 = omega arith in more one q
 
-ranking-listed : (ids ms : List ℕ) (f : ℕ → Float) (s : ResultSet) (is : List ℕ) → Each (λ (i : ℕ). has ids i ≡ 1) is → Each (TrueEntry ids ms f) (entriesOf s)
-    → (ranking ms f s is).refusal ≡ 0 → Each (TrueEntry ids ms f) (entriesOf (ranking ms f s is).set)
+ranking-listed : (ids ms : List ℕ) (f : ℕ → Float) (s : ResultSet) (is : List ℕ) → Each (λ (i : ℕ). has ids i ≡ 1) is → Each (TrueEntry ids ms f) (entries_of s)
+    → (ranking ms f s is).refusal ≡ 0 → Each (TrueEntry ids ms f) (entries_of (ranking ms f s is).set)
 unfolding ranking
 ranking-listed ids ms f s [] none q e = q
 ranking-listed ids ms f s (i ∷ is) (more h hs) q e =
     let a = first_of ms f s i is e in
     let new : TrueEntry ids ms f (scored f i) = record { inside = h; marked = a.marked; score = refl } in
-    let e2 : (ranking ms f (fedSet s (scored f i)) is).refusal ≡ 0 = ap (λ (r : Fed). r.refusal) (sym a.rest) ∙ e in
-    subst (λ (r : Fed). Each (TrueEntry ids ms f) (entriesOf r.set)) (sym a.rest)
-    (ranking-listed ids ms f (fedSet s (scored f i)) is hs (each-fed-set (TrueEntry ids ms f) (scored f i) new s q) e2)
+    let e2 : (ranking ms f (fed_set s (scored f i)) is).refusal ≡ 0 = ap (λ (r : Fed). r.refusal) (sym a.rest) ∙ e in
+    subst (λ (r : Fed). Each (TrueEntry ids ms f) (entries_of r.set)) (sym a.rest)
+    (ranking-listed ids ms f (fed_set s (scored f i)) is hs (each-fed-set (TrueEntry ids ms f) (scored f i) new s q) e2)
 
 pub rank-listed : (mode k : ℕ) (ids ms vs : List ℕ) (t : List Float) → (rank_of mode k ids ms vs t).refusal ≡ 0
-    → Each (TrueEntry ids ms (similarityOf mode vs t)) (entriesOf (rank_of mode k ids ms vs t).set)
+    → Each (TrueEntry ids ms (similarity_of mode vs t)) (entries_of (rank_of mode k ids ms vs t).set)
 unfolding rank_of
 rank-listed mode k ids ms vs t e =
-    let f = similarityOf mode vs t in
-    let start : Each (TrueEntry ids ms f) (entriesOf (emptySet k)) = rw (entries_none k) none in
-    ranking-listed ids ms f (emptySet k) (ids_of ids) (ids-inside (length ids * 64) 0 ids) start e
+    let f = similarity_of mode vs t in
+    let start : Each (TrueEntry ids ms f) (entries_of (empty_set k)) = rw (entries_none k) none in
+    ranking-listed ids ms f (empty_set k) (ids_of ids) (ids-inside (length ids * 64) 0 ids) start e

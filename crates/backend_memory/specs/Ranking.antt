@@ -2,24 +2,24 @@
 use Rattle.std.specs.Prelude.{ℕ, ◌*◌, ◌≤◌, ◌≡◌, List, [], ◌∷◌, Float, length}
 use Rattle.std.specs.Float.Ieee.{is_nan}
 use Rattle.paper.specs.Choice.{pick}
-use Rattle.index_memory.specs.Memory.{slotBytes, slot_at}
+use Rattle.index_memory.specs.Memory.{slot_bytes, slot_at}
 use Rattle.bitmaps.specs.Words.{holds}
 use Rattle.bitmaps.specs.Walk.{ids_of}
-use Rattle.vector.specs.Fold.{squaresOf}
+use Rattle.vector.specs.Fold.{squares_of}
 use Rattle.sqrt.specs.RootOf.{root}
 use Rattle.quantization.specs.Stored.{components}
 use Rattle.result.specs.Ranked.{Entry, entry}
-use Rattle.result.specs.Sets.{emptySet, fedSet, answer}
+use Rattle.result.specs.Sets.{empty_set, fed_set, answer}
 use Rattle.result.specs.declared.ResultSet.{ResultSet}
 use Rattle.result.specs.declared.Fed.{Fed}
 
 -- the score of an id: the distance of the target, as given, from the components that the id's slot holds
-unfoldable pub similarityOf : ℕ → List ℕ → List Float → ℕ → Float
-similarityOf mode vs t i = root (squaresOf t (components mode vs (slot_at (length t) mode i) (length t)))
+unfoldable pub similarity_of : ℕ → List ℕ → List Float → ℕ → Float
+similarity_of mode vs t i = root (squares_of t (components mode vs (slot_at (length t) mode i) (length t)))
 
 -- a refused list: empty, with k 0 and checked 0
 abbrev pub refused : ℕ → Fed
-refused num = answer num (emptySet 0)
+refused num = answer num (empty_set 0)
 
 -- an id and its score
 abbrev pub scored : (ℕ → Float) → ℕ → Entry
@@ -30,23 +30,23 @@ unfoldable pub ranking : List ℕ → (ℕ → Float) → ResultSet → List ℕ
 ranking ms f s [] = answer 0 s
 ranking ms f s (i ∷ is) =
     pick (holds ms i)
-    (pick (is_nan (f i)) (refused 10) (ranking ms f (fedSet s (scored f i)) is))
+    (pick (is_nan (f i)) (refused 10) (ranking ms f (fed_set s (scored f i)) is))
     (refused 9)
 
 -- the ids of a set, ranked into a list of at most k
 unfoldable pub rank_of : ℕ → ℕ → List ℕ → List ℕ → List ℕ → List Float → Fed
-unfolding similarityOf ranking
-rank_of mode k s ms vs t = ranking ms (similarityOf mode vs t) (emptySet k) (ids_of s)
+unfolding similarity_of ranking
+rank_of mode k s ms vs t = ranking ms (similarity_of mode vs t) (empty_set k) (ids_of s)
 
 -- the same where no mark is asked for
 unfoldable pub feeding : (ℕ → Float) → ResultSet → List ℕ → Fed
 feeding f s [] = answer 0 s
-feeding f s (i ∷ is) = pick (is_nan (f i)) (refused 10) (feeding f (fedSet s (scored f i)) is)
+feeding f s (i ∷ is) = pick (is_nan (f i)) (refused 10) (feeding f (fed_set s (scored f i)) is)
 
 -- every present id, ranked
-unfoldable pub nearestOf : ℕ → ℕ → List ℕ → List ℕ → List Float → Fed
-unfolding similarityOf feeding
-nearestOf mode k ms vs t = feeding (similarityOf mode vs t) (emptySet k) (ids_of ms)
+unfoldable pub nearest_of : ℕ → ℕ → List ℕ → List ℕ → List Float → Fed
+unfolding similarity_of feeding
+nearest_of mode k ms vs t = feeding (similarity_of mode vs t) (empty_set k) (ids_of ms)
 
 -- what ranking asks of the lengths of the set, the marks, the vectors and the target
 pub record RankArgs (mode k ls lm lv lt : ℕ) : Type 0 where
@@ -55,4 +55,4 @@ pub record RankArgs (mode k ls lm lv lt : ℕ) : Type 0 where
   pub marks : lm ≡ ls
   pub d-low : 1 ≤ lt
   pub d-high : lt ≤ 1024
-  pub vectors : lv ≡ ls * 64 * slotBytes lt mode
+  pub vectors : lv ≡ ls * 64 * slot_bytes lt mode

@@ -1,11 +1,11 @@
 // The calls behind the refusals: distances straight from the stored bytes, and the ranking of a set of ids.
 ghost use Rattle.std.specs.Prelude.{◌≡◌, ◌+◌, ◌*◌, ◌<◌, ◌≤◌, length};
-ghost use Rattle.paper.specs.Geometry.{compSize};
+ghost use Rattle.paper.specs.Geometry.{comp_size};
 ghost use Rattle.bitmaps.specs.Words.{holds};
 ghost use Rattle.sqrt.specs.RootOf.{root};
-ghost use Rattle.vector.specs.Fold.{distStep, squaresOf};
+ghost use Rattle.vector.specs.Fold.{dist_step, squares_of};
 ghost use Rattle.quantization.specs.Stored.{components};
-ghost use Rattle.backend_memory.specs.Ranking.{refused, rank_of, nearestOf, RankArgs};
+ghost use Rattle.backend_memory.specs.Ranking.{refused, rank_of, nearest_of, RankArgs};
 
 use bitmaps::Found;
 use result::{Fed, ResultSet};
@@ -15,7 +15,7 @@ const SIGN: u32 = 0x8000_0000;
 
 // One component's share of a distance.
 fn step(sum: f32, x: f32, y: f32) -> f32
-    ensures { result ≡ distStep sum x y }
+    ensures { result ≡ dist_step sum x y }
 {
     let diff = x - y;
     sum + diff * diff
@@ -23,8 +23,8 @@ fn step(sum: f32, x: f32, y: f32) -> f32
 
 // The sum of the squared differences of the target and the vector stored from byte `at` on, read from its bytes without a copy of it.
 pub fn squares(vectors: &[u8], target: &[f32], mode: usize, at: usize) -> f32
-    requires { at + compSize mode * length target.now ≤ length vectors.now }
-    ensures { result ≡ squaresOf target.now (components mode vectors.now at (length target.now)) }
+    requires { at + comp_size mode * length target.now ≤ length vectors.now }
+    ensures { result ≡ squares_of target.now (components mode vectors.now at (length target.now)) }
 {
     let size = paper::component_size(mode);
     let mut sum: f32 = 0.0;
@@ -131,7 +131,7 @@ pub fn rank(
 // Feeds every present id: each has its mark, so that 9 never comes.
 pub fn find_nearest(marks: &[u64], vectors: &[u8], target: &[f32], mode: usize, k: usize) -> Fed
     requires { RankArgs mode k (length marks.now) (length marks.now) (length vectors.now) (length target.now) }
-    ensures { result ≡ nearestOf mode k marks.now vectors.now target.now }
+    ensures { result ≡ nearest_of mode k marks.now vectors.now target.now }
 {
     rank(marks, marks, vectors, target, mode, k)
 }

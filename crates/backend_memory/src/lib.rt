@@ -4,7 +4,7 @@
 
 ghost use Rattle.std.specs.Prelude.{◌≡◌};
 ghost use Rattle.paper.specs.Geometry.{geo};
-ghost use Rattle.backend_memory.specs.Scan.{scanRefusal, scanOf};
+ghost use Rattle.backend_memory.specs.Scan.{scan_refusal, scan_of};
 ghost use Rattle.backend_memory.specs.Laws.{Laws};
 
 use result::Fed;
@@ -22,7 +22,7 @@ fn scan_refusal(
     marks: usize,
     vectors: usize,
 ) -> u32
-    ensures { result ≡ scanRefusal (geo d n cap mode) marks vectors target.now k }
+    ensures { result ≡ scan_refusal (geo d n cap mode) marks vectors target.now k }
 {
     if !paper::geometry_ok(d, n, cap, mode) {
         return paper::WRONG_GEOMETRY;
@@ -54,7 +54,7 @@ pub fn full_table_scan(
     mode: usize,
     k: usize,
 ) -> Fed
-    ensures { result ≡ scanOf (geo d n cap mode) marks.now vectors.now target.now k }
+    ensures { result ≡ scan_of (geo d n cap mode) marks.now vectors.now target.now k }
 {
     let num = scan_refusal(target, d, n, cap, mode, k, marks.len(), vectors.len());
     if num != 0 {

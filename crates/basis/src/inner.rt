@@ -2,7 +2,7 @@
 // a turn, so that the machine adds several sums at once; each sum keeps its own order, so no bit differs from one dot product after the other.
 ghost use Rattle.std.specs.Prelude.{◌≡◌, ◌++◌, ◌+◌, ◌*◌, ◌<◌, ◌≤◌, length, take, drop};
 ghost use Rattle.basis.specs.Project.{projected, rows_from, Square};
-ghost use Rattle.basis.specs.Four.{columnOf, dotFour, foldFour, setFour};
+ghost use Rattle.basis.specs.Four.{column_of, dot_four, fold_four, set_four};
 
 // The sums of four rows.
 #[derive(Drop)]
@@ -23,7 +23,7 @@ pub struct Eight {
 // One column of the four rows from place `at` on: each sum takes the product of x with its row's component.
 fn column(t: Four, basis: &[f32], at: usize, d: usize, x: f32) -> Four
     requires { at + d + d + d < length basis.now }
-    ensures { result ≡ columnOf t x basis.now at d }
+    ensures { result ≡ column_of t x basis.now at d }
 {
     let b = at + d;
     let c = b + d;
@@ -39,7 +39,7 @@ fn column(t: Four, basis: &[f32], at: usize, d: usize, x: f32) -> Four
 // Four columns, from column i on.
 fn block(t: Four, basis: &[f32], at: usize, target: &[f32], i: usize) -> Four
     requires { (i + 4 ≤ length target.now) × (at + 4 * length target.now ≤ length basis.now) }
-    ensures { foldFour t (drop i target.now) basis.now (at + i) (length target.now) ≡ foldFour result (drop (i + 4) target.now) basis.now (at + (i + 4)) (length target.now) }
+    ensures { fold_four t (drop i target.now) basis.now (at + i) (length target.now) ≡ fold_four result (drop (i + 4) target.now) basis.now (at + (i + 4)) (length target.now) }
 {
     let d = target.len();
     let t1 = column(t, basis, at + i, d, target[i]);
@@ -51,7 +51,7 @@ fn block(t: Four, basis: &[f32], at: usize, target: &[f32], i: usize) -> Four
 // The dot products with the four rows from place `at` on.
 fn dots_of_four(basis: &[f32], at: usize, target: &[f32]) -> Four
     requires { at + 4 * length target.now ≤ length basis.now }
-    ensures { result ≡ dotFour target.now basis.now at }
+    ensures { result ≡ dot_four target.now basis.now at }
 {
     let d = target.len();
     let mut t = Four {
@@ -75,7 +75,7 @@ fn dots_of_four(basis: &[f32], at: usize, target: &[f32]) -> Four
 // The dot products with the eight rows from place `at` on.
 fn dots_of_eight(basis: &[f32], at: usize, target: &[f32]) -> Eight
     requires { at + 8 * length target.now ≤ length basis.now }
-    ensures { (result.lo ≡ dotFour target.now basis.now at) × (result.hi ≡ dotFour target.now basis.now (at + 4 * length target.now)) }
+    ensures { (result.lo ≡ dot_four target.now basis.now at) × (result.hi ≡ dot_four target.now basis.now (at + 4 * length target.now)) }
 {
     let d = target.len();
     let up = at + 4 * d;
@@ -108,7 +108,7 @@ fn dots_of_eight(basis: &[f32], at: usize, target: &[f32]) -> Eight
 // Four numbers written from place r on.
 fn put_four(work: &mut [f32], r: usize, q: Four)
     requires { r + 4 ≤ length work.old }
-    ensures { work.new ≡ setFour work.old r q }
+    ensures { work.new ≡ set_four work.old r q }
 {
     work[r] = q.a;
     work[r + 1] = q.b;

@@ -7,10 +7,10 @@ use mathlib.Core.List.{List}
 use lib.Dec.{eqb, ltb}
 use borrow.Author.Tests.{eqb-true, ltb-true}
 use Rattle.paper.specs.Choice.{refuse}
-use Rattle.paper.specs.Geometry.{capOk, setWords}
+use Rattle.paper.specs.Geometry.{cap_ok, set_words}
 use Rattle.paper.proofs.Choice.{refuse-ok, refuse-rest}
 use Rattle.paper.proofs.Geometry.{cap-facts}
-use Rattle.bitmaps.specs.Answers.{setFault, pairFault, idFault, unlessRefused, Changed, AskedIs, CountedIs, steppedTo, walkedRefusal, walkedValue, WalkedIs}
+use Rattle.bitmaps.specs.Answers.{set_fault, pair_fault, id_fault, unless_refused, Changed, AskedIs, CountedIs, stepped_to, walked_refusal, walked_value, WalkedIs}
 use Rattle.bitmaps.specs.declared.Found.{Found}
 use Rattle.bitmaps.specs.declared.Asked.{Asked}
 use Rattle.bitmaps.specs.declared.Counted.{Counted}
@@ -27,35 +27,35 @@ pub record SetFacts (cap words : ℕ) : Type 0 where
   pub few : words ≤ 1024
   pub ids : words * 64 ≡ cap
 
-set-facts : (cap words : ℕ) → capOk cap ≡ true → words ≡ cap / 64 → SetFacts cap words
+set-facts : (cap words : ℕ) → cap_ok cap ≡ true → words ≡ cap / 64 → SetFacts cap words
 set-facts cap words g l =
     let f = cap-facts cap g in
     record { low = f.low; high = f.high; even = f.even; long = l; few = omega arith; ids = omega arith }
 
-pub set-accepted : (cap words : ℕ) → setFault cap words ≡ 0 → SetFacts cap words
-unfolding setFault
+pub set-accepted : (cap words : ℕ) → set_fault cap words ≡ 0 → SetFacts cap words
+unfolding set_fault
 set-accepted cap words e =
-    let g = refuse-ok (capOk cap) 1 _ (omega arith) e in
-    let e1 = refuse-rest (capOk cap) 1 _ (omega arith) e in
-    set-facts cap words g (eqb-true _ _ (refuse-ok (eqb words (setWords cap)) 2 _ (omega arith) e1))
+    let g = refuse-ok (cap_ok cap) 1 _ (omega arith) e in
+    let e1 = refuse-rest (cap_ok cap) 1 _ (omega arith) e in
+    set-facts cap words g (eqb-true _ _ (refuse-ok (eqb words (set_words cap)) 2 _ (omega arith) e1))
 
-pub pair-accepted : (cap words other : ℕ) → pairFault cap words other ≡ 0 → SetFacts cap words × (other ≡ words)
-unfolding pairFault
+pub pair-accepted : (cap words other : ℕ) → pair_fault cap words other ≡ 0 → SetFacts cap words × (other ≡ words)
+unfolding pair_fault
 pair-accepted cap words other e =
-    let g = refuse-ok (capOk cap) 1 _ (omega arith) e in
-    let e1 = refuse-rest (capOk cap) 1 _ (omega arith) e in
-    let l : words ≡ cap / 64 = eqb-true _ _ (refuse-ok (eqb words (setWords cap)) 2 _ (omega arith) e1) in
-    let e2 = refuse-rest (eqb words (setWords cap)) 2 _ (omega arith) e1 in
-    let k : other ≡ cap / 64 = eqb-true _ _ (refuse-ok (eqb other (setWords cap)) 2 _ (omega arith) e2) in
+    let g = refuse-ok (cap_ok cap) 1 _ (omega arith) e in
+    let e1 = refuse-rest (cap_ok cap) 1 _ (omega arith) e in
+    let l : words ≡ cap / 64 = eqb-true _ _ (refuse-ok (eqb words (set_words cap)) 2 _ (omega arith) e1) in
+    let e2 = refuse-rest (eqb words (set_words cap)) 2 _ (omega arith) e1 in
+    let k : other ≡ cap / 64 = eqb-true _ _ (refuse-ok (eqb other (set_words cap)) 2 _ (omega arith) e2) in
     (set-facts cap words g l, k ∙ sym l)
 
-pub id-accepted : (cap words id : ℕ) → idFault cap words id ≡ 0 → SetFacts cap words × (id < words * 64)
-unfolding idFault
+pub id-accepted : (cap words id : ℕ) → id_fault cap words id ≡ 0 → SetFacts cap words × (id < words * 64)
+unfolding id_fault
 id-accepted cap words id e =
-    let g = refuse-ok (capOk cap) 1 _ (omega arith) e in
-    let e1 = refuse-rest (capOk cap) 1 _ (omega arith) e in
-    let l : words ≡ cap / 64 = eqb-true _ _ (refuse-ok (eqb words (setWords cap)) 2 _ (omega arith) e1) in
-    let e2 = refuse-rest (eqb words (setWords cap)) 2 _ (omega arith) e1 in
+    let g = refuse-ok (cap_ok cap) 1 _ (omega arith) e in
+    let e1 = refuse-rest (cap_ok cap) 1 _ (omega arith) e in
+    let l : words ≡ cap / 64 = eqb-true _ _ (refuse-ok (eqb words (set_words cap)) 2 _ (omega arith) e1) in
+    let e2 = refuse-rest (eqb words (set_words cap)) 2 _ (omega arith) e1 in
     let b : id < cap = ltb-true _ _ (refuse-ok (ltb id cap) 3 _ (omega arith) e2) in
     let s = set-facts cap words g l in
     (s, omega arith)
@@ -71,26 +71,26 @@ goes_on true true f x e z = refl
 goes_on true false f x e z = absurd (omega arith)
 goes_on false l f x e z = absurd (omega arith)
 
-module _ (cap words f : ℕ) (e : f ≡ setFault cap words) where
-  pub pair-first : (other : ℕ) → (f ≡ 0 → ⊥) → f ≡ pairFault cap words other
-  unfolding setFault pairFault
-  pair-first other h = goes_first (capOk cap) (eqb words (setWords cap)) f _ e h
+module _ (cap words f : ℕ) (e : f ≡ set_fault cap words) where
+  pub pair-first : (other : ℕ) → (f ≡ 0 → ⊥) → f ≡ pair_fault cap words other
+  unfolding set_fault pair_fault
+  pair-first other h = goes_first (cap_ok cap) (eqb words (set_words cap)) f _ e h
 
-  pub pair_then : (other : ℕ) → f ≡ 0 → refuse 2 (eqb other (setWords cap)) 0 ≡ pairFault cap words other
-  unfolding setFault pairFault
-  pair_then other z = goes_on (capOk cap) (eqb words (setWords cap)) f _ e z
+  pub pair_then : (other : ℕ) → f ≡ 0 → refuse 2 (eqb other (set_words cap)) 0 ≡ pair_fault cap words other
+  unfolding set_fault pair_fault
+  pair_then other z = goes_on (cap_ok cap) (eqb words (set_words cap)) f _ e z
 
-  pub id-first : (id : ℕ) → (f ≡ 0 → ⊥) → f ≡ idFault cap words id
-  unfolding setFault idFault
-  id-first id h = goes_first (capOk cap) (eqb words (setWords cap)) f _ e h
+  pub id-first : (id : ℕ) → (f ≡ 0 → ⊥) → f ≡ id_fault cap words id
+  unfolding set_fault id_fault
+  id-first id h = goes_first (cap_ok cap) (eqb words (set_words cap)) f _ e h
 
-  pub id-then : (id : ℕ) → f ≡ 0 → refuse 3 (ltb id cap) 0 ≡ idFault cap words id
-  unfolding setFault idFault
-  id-then id z = goes_on (capOk cap) (eqb words (setWords cap)) f _ e z
+  pub id-then : (id : ℕ) → f ≡ 0 → refuse 3 (ltb id cap) 0 ≡ id_fault cap words id
+  unfolding set_fault id_fault
+  id-then id z = goes_on (cap_ok cap) (eqb words (set_words cap)) f _ e z
 
 -- ---- a call is refused
 
-pub refused-old : {A : Type 0} (f : ℕ) (new old : A) → (f ≡ 0 → ⊥) → old ≡ unlessRefused f new old
+pub refused-old : {A : Type 0} (f : ℕ) (new old : A) → (f ≡ 0 → ⊥) → old ≡ unless_refused f new old
 refused-old zero new old h = absurd (h refl)
 refused-old (suc f) new old h = refl
 
@@ -120,13 +120,13 @@ asked-done fault b r e w = record { answer = rw e (ap Asked.Is w); refusal = sym
 pub counted-done : (fault n r : ℕ) → fault ≡ 0 → r ≡ n → CountedIs fault n (Counted.Ids r)
 counted-done fault n r e w = record { answer = rw e (ap Counted.Ids w); refusal = sym e; value = rw e w }
 
-pub walked-done : (fault : ℕ) (n r : Found) → fault ≡ 0 → r ≡ n → WalkedIs fault n (steppedTo r)
-walked-done fault n r e w = record { answer = rw e (ap steppedTo w); refusal = rw e (stepped-number r); value = rw e (stepped-value r ∙ w) }
+pub walked-done : (fault : ℕ) (n r : Found) → fault ≡ 0 → r ≡ n → WalkedIs fault n (stepped_to r)
+walked-done fault n r e w = record { answer = rw e (ap stepped_to w); refusal = rw e (stepped-number r); value = rw e (stepped-value r ∙ w) }
   where
-    stepped-number : (r : Found) → walkedRefusal (steppedTo r) ≡ 0
+    stepped-number : (r : Found) → walked_refusal (stepped_to r) ≡ 0
     stepped-number (Found.At i) = refl
     stepped-number Found.Nothing = refl
 
-    stepped-value : (r : Found) → walkedValue (steppedTo r) ≡ r
+    stepped-value : (r : Found) → walked_value (stepped_to r) ≡ r
     stepped-value (Found.At i) = refl
     stepped-value Found.Nothing = refl

@@ -8,7 +8,7 @@ use mathlib.Core.List.{List, [], ◌∷◌}
 use lib.ListN.{length, get_or}
 use lib.Pow.{shr-shr}
 use lib.Bits.{bit_and, bit_or, bit_xor, differ, and_step, or_step, xor_step, and_shr, or_shr, xor_shr}
-use Rattle.bitmaps.specs.Words.{digit, has, wordBut, by_word, union, exclusive, without, shared}
+use Rattle.bitmaps.specs.Words.{digit, has, word_but, by_word, union, exclusive, without, shared}
 -- every element is a word
 pub use Rattle.bitmaps.specs.Words.{Words}
 
@@ -54,23 +54,23 @@ digit-ext (suc n) a b ha hb e =
 
 -- ---- the sets
 
-pub byWord-at : (f : ℕ → ℕ → ℕ) → f 0 0 ≡ 0 → (a b : List ℕ) → length a ≡ length b → (i : ℕ) → get_or (by_word f a b) i 0 ≡ f (get_or a i 0) (get_or b i 0)
+pub by_word-at : (f : ℕ → ℕ → ℕ) → f 0 0 ≡ 0 → (a b : List ℕ) → length a ≡ length b → (i : ℕ) → get_or (by_word f a b) i 0 ≡ f (get_or a i 0) (get_or b i 0)
 unfolding by_word
-byWord-at f z [] [] h i = sym z
-byWord-at f z [] (y ∷ b) h i = absurd (omega arith)
-byWord-at f z (x ∷ a) [] h i = absurd (omega arith)
-byWord-at f z (x ∷ a) (y ∷ b) h zero = refl
-byWord-at f z (x ∷ a) (y ∷ b) h (suc i) = byWord-at f z a b (omega arith) i
+by_word-at f z [] [] h i = sym z
+by_word-at f z [] (y ∷ b) h i = absurd (omega arith)
+by_word-at f z (x ∷ a) [] h i = absurd (omega arith)
+by_word-at f z (x ∷ a) (y ∷ b) h zero = refl
+by_word-at f z (x ∷ a) (y ∷ b) h (suc i) = by_word-at f z a b (omega arith) i
 
 pub has-union : (a b : List ℕ) → length a ≡ length b → (i : ℕ) → has (union a b) i ≡ max (has a i) (has b i)
-has-union a b h i = rw (byWord-at bit_or refl a b h) (or-digit _ _ _)
+has-union a b h i = rw (by_word-at bit_or refl a b h) (or-digit _ _ _)
 
 pub has-shared : (a b : List ℕ) → length a ≡ length b → (i : ℕ) → has (shared a b) i ≡ min (has a i) (has b i)
-has-shared a b h i = rw (byWord-at bit_and refl a b h) (and-digit _ _ _)
+has-shared a b h i = rw (by_word-at bit_and refl a b h) (and-digit _ _ _)
 
 pub has-exclusive : (a b : List ℕ) → length a ≡ length b → (i : ℕ) → has (exclusive a b) i ≡ (has a i - has b i) + (has b i - has a i)
-has-exclusive a b h i = rw (byWord-at bit_xor refl a b h) (xor-digit _ _ _)
+has-exclusive a b h i = rw (by_word-at bit_xor refl a b h) (xor-digit _ _ _)
 
 pub has-without : (a b : List ℕ) → length a ≡ length b → Words b → (i : ℕ) → has (without a b) i ≡ has a i - has b i
 has-without a b h w i =
-    rw (byWord-at wordBut refl a b h, and-digit, not_digit 64 (i % 64) (get_or b (i / 64) 0) (mod-lt i (omega arith)) (w (i / 64))) (omega arith)
+    rw (by_word-at word_but refl a b h, and-digit, not_digit 64 (i % 64) (get_or b (i / 64) 0) (mod-lt i (omega arith)) (w (i / 64))) (omega arith)

@@ -11,7 +11,7 @@ use borrow.Author.Tests.{eq-eqb, ne_eqb}
 use mathlib.Core.Bool.{Bool, true, false}
 use Rattle.paper.specs.Choice.{pick}
 use Rattle.bitmaps.specs.Words.{has, size, sum_to}
-use Rattle.bitmaps.specs.Walk.{NextIs, keep, ids_in, idsFrom, ids_of, first_of, listed, RisesFrom}
+use Rattle.bitmaps.specs.Walk.{NextIs, keep, ids_in, ids_from, ids_of, first_of, listed, RisesFrom}
 use Rattle.bitmaps.specs.declared.Found.{Found}
 use Rattle.bitmaps.specs.declared.Found.TheVariants.{At, Nothing}
 use Rattle.bitmaps.proofs.Digits.{Words, digit_lt}
@@ -128,21 +128,21 @@ ids-rising s = ids-rise (length s * 64) 0 0 s (omega arith)
 
 -- ---- the walk by `next` goes through the list: the id found comes first, and the rest is what follows from one past it
 
-pub walk-on : (s : List ℕ) (from i : ℕ) → NextIs s from (At i) → idsFrom s from ≡ i ∷ idsFrom s (i + 1)
+pub walk-on : (s : List ℕ) (from i : ℕ) → NextIs s from (At i) → ids_from s from ≡ i ∷ ids_from s (i + 1)
 walk-on s from i p =
     let e : from + (length s * 64 - from) - (i + 1) ≡ length s * 64 - (i + 1) = omega arith in
     ids_next (length s * 64 - from) from i s p.0 (omega arith) p.2 p.3 ∙ rw e
 
-pub walk_end : (s : List ℕ) (from : ℕ) → NextIs s from Nothing → idsFrom s from ≡ []
-walk_end s from p = ids-none (length s * 64 - from) from s p
+pub walk-end : (s : List ℕ) (from : ℕ) → NextIs s from Nothing → ids_from s from ≡ []
+walk-end s from p = ids-none (length s * 64 - from) from s p
 
-pub walk_start : (s : List ℕ) → idsFrom s 0 ≡ ids_of s
-walk_start s = let e : length s * 64 - 0 ≡ length s * 64 = omega arith in rw e
+pub walk-start : (s : List ℕ) → ids_from s 0 ≡ ids_of s
+walk-start s = let e : length s * 64 - 0 ≡ length s * 64 = omega arith in rw e
 
 -- the answer of `next` is the first of the ids at or after the place
-pub next-first : (s : List ℕ) (from : ℕ) (r : Found) → NextIs s from r → r ≡ first_of (idsFrom s from)
+pub next-first : (s : List ℕ) (from : ℕ) (r : Found) → NextIs s from r → r ≡ first_of (ids_from s from)
 next-first s from (At i) p = sym (ap first_of (walk-on s from i p))
-next-first s from Nothing p = sym (ap first_of (walk_end s from p))
+next-first s from Nothing p = sym (ap first_of (walk-end s from p))
 
 -- two answers that meet the contract of `next` are the same
 pub next-unique : (s : List ℕ) (from : ℕ) (r r' : Found) → NextIs s from r → NextIs s from r' → r ≡ r'

@@ -13,7 +13,7 @@ use lib.Seq.{ext_get_or}
 use borrow.Author.Tests.{eq-eqb, ne_eqb}
 use Rattle.bitmaps.specs.Words.{has, holds, union, exclusive, without, shared, inserted, empty}
 use Rattle.bitmaps.proofs.Digits.{Words, digit_lt, digit-ext, has-union, has-shared, has-exclusive, has-without}
-use Rattle.bitmaps.proofs.Rising.{le-or-lt, has-at, has-inserted, has_kept}
+use Rattle.bitmaps.proofs.Rising.{le-or-lt, has-at, has-inserted, has-kept}
 
 -- what holds of the digits 0 and 1, in the four ways
 each-digit : (P : ℕ → ℕ → Type 0) → P 0 0 → P 0 1 → P 1 0 → P 1 1 → (x y : ℕ) → x < 2 → y < 2 → P x y
@@ -43,7 +43,7 @@ pub holds-inserted : (s : List ℕ) (i j : ℕ) → i < length s * 64 → holds 
 holds-inserted s i j h = ⊎_elim low (λ (l : i < j). other (omega arith)) (le-or-lt j i)
   where
     other : (j ≡ i → ⊥) → holds (inserted s i) j ≡ (eqb j i || holds s j)
-    other n = ap (λ (x : ℕ). eqb x 1) (has_kept s i j h n) ∙ rw (ne_eqb j i n)
+    other n = ap (λ (x : ℕ). eqb x 1) (has-kept s i j h n) ∙ rw (ne_eqb j i n)
 
     here : i ≤ j → j ≤ i → holds (inserted s i) j ≡ (eqb j i || holds s j)
     here a b =

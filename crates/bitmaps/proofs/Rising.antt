@@ -109,8 +109,8 @@ pub has-inserted : (s : List ℕ) (i : ℕ) → i < length s * 64 → has (inser
 has-inserted s i h =
     rw (get_or-set_same s (i / 64) (bit_or (get_or s (i / 64) 0) (2 ^ (i % 64))) 0 (omega arith), or-digit, pow-digit-same) (omega arith)
 
-pub has_kept : (s : List ℕ) (i j : ℕ) → i < length s * 64 → (j ≡ i → ⊥) → has (inserted s i) j ≡ has s j
-has_kept s i j h ne =
+pub has-kept : (s : List ℕ) (i j : ℕ) → i < length s * 64 → (j ≡ i → ⊥) → has (inserted s i) j ≡ has s j
+has-kept s i j h ne =
     ⊎_elim
     (λ (e : j / 64 ≡ i / 64).
     let o : j % 64 ≡ i % 64 → ⊥ = λ r. ne (omega arith) in

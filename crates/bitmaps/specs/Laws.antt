@@ -3,7 +3,7 @@
 use Rattle.std.specs.Prelude.{ℕ, ◌+◌, ◌-◌, ◌*◌, ◌<◌, min, max, false, not, ◌&&◌, ◌||◌, ◌≡◌, List, [], ◌∷◌, eqb, length}
 use Rattle.std.specs.Bool.{xor}
 use Rattle.bitmaps.specs.Words.{has, holds, Words, union, exclusive, without, shared, inserted, empty, size}
-use Rattle.bitmaps.specs.Walk.{NextIs, idsFrom, ids_of, first_of, listed, RisesFrom}
+use Rattle.bitmaps.specs.Walk.{NextIs, ids_from, ids_of, first_of, listed, RisesFrom}
 use Rattle.bitmaps.specs.declared.Found.{Found}
 use Rattle.bitmaps.specs.declared.Found.TheVariants.{At, Nothing}
 
@@ -20,7 +20,7 @@ pub record Laws : Type 0 where
   -- an id that is put in is there
   pub has-inserted : (s : List ℕ) (i : ℕ) → i < length s * 64 → has (inserted s i) i ≡ 1
   -- and every other stays as it was
-  pub has_kept : (s : List ℕ) (i j : ℕ) → i < length s * 64 → (j ≡ i → ⊥) → has (inserted s i) j ≡ has s j
+  pub has-kept : (s : List ℕ) (i j : ℕ) → i < length s * 64 → (j ≡ i → ⊥) → has (inserted s i) j ≡ has s j
   -- an empty set has none
   pub has-empty : (m i : ℕ) → has (empty m) i ≡ 0
   -- ---- the same as `contains` answers it
@@ -43,10 +43,10 @@ pub record Laws : Type 0 where
   -- it is as long as `count` says
   pub ids-size : (s : List ℕ) → Words s → length (ids_of s) ≡ size s
   -- the walk starts with the whole list,
-  pub walk_start : (s : List ℕ) → idsFrom s 0 ≡ ids_of s
+  pub walk-start : (s : List ℕ) → ids_from s 0 ≡ ids_of s
   -- goes through it from one past each id found,
-  pub walk-on : (s : List ℕ) (from i : ℕ) → NextIs s from (At i) → idsFrom s from ≡ i ∷ idsFrom s (i + 1)
+  pub walk-on : (s : List ℕ) (from i : ℕ) → NextIs s from (At i) → ids_from s from ≡ i ∷ ids_from s (i + 1)
   -- and finds nothing only where nothing is left
-  pub walk_end : (s : List ℕ) (from : ℕ) → NextIs s from Nothing → idsFrom s from ≡ []
+  pub walk-end : (s : List ℕ) (from : ℕ) → NextIs s from Nothing → ids_from s from ≡ []
   -- what a step has to be is the first id at or after the place
-  pub next-first : (s : List ℕ) (from : ℕ) (r : Found) → NextIs s from r → r ≡ first_of (idsFrom s from)
+  pub next-first : (s : List ℕ) (from : ℕ) (r : Found) → NextIs s from r → r ≡ first_of (ids_from s from)

@@ -16,8 +16,8 @@ ids_in zero from s = []
 ids_in (suc m) from s = keep (has s from) from (ids_in m (suc from) s)
 
 -- the ids of s at or after a place, rising
-abbrev pub idsFrom : List ℕ → ℕ → List ℕ
-idsFrom s from = ids_in (length s * 64 - from) from s
+abbrev pub ids_from : List ℕ → ℕ → List ℕ
+ids_from s from = ids_in (length s * 64 - from) from s
 
 -- all ids of s, rising
 abbrev pub ids_of : List ℕ → List ℕ

@@ -38,12 +38,12 @@ abbrev pub exclusive : List ℕ → List ℕ → List ℕ
 exclusive = by_word bit_xor
 
 -- the ids of one word that are not in the other
-abbrev pub wordBut : ℕ → ℕ → ℕ
-wordBut a b = bit_and a (2 ^ 64 - 1 - b)
+abbrev pub word_but : ℕ → ℕ → ℕ
+word_but a b = bit_and a (2 ^ 64 - 1 - b)
 
 -- the ids of the first that are not in the second
 abbrev pub without : List ℕ → List ℕ → List ℕ
-without = by_word wordBut
+without = by_word word_but
 
 -- the ids of both
 abbrev pub shared : List ℕ → List ℕ → List ℕ

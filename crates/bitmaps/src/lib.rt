@@ -3,8 +3,8 @@
 
 ghost use Rattle.std.specs.Prelude.{◌≡◌, length};
 ghost use Rattle.bitmaps.specs.Words.{union, exclusive, without, inserted, size, holds, is_empty, empty};
-ghost use Rattle.bitmaps.specs.Walk.{idsFrom, first_of};
-ghost use Rattle.bitmaps.specs.Answers.{setFault, pairFault, idFault, Changed, AskedIs, CountedIs, WalkedIs};
+ghost use Rattle.bitmaps.specs.Walk.{ids_from, first_of};
+ghost use Rattle.bitmaps.specs.Answers.{set_fault, pair_fault, id_fault, Changed, AskedIs, CountedIs, WalkedIs};
 ghost use Rattle.bitmaps.specs.Laws.{Laws};
 
 pub mod inner;
@@ -40,7 +40,7 @@ pub enum Walked {
 
 // Why a call on one set is refused: 1 for the capacity, then 2 for the set's length; 0 where it is not.
 fn set_fault(cap: usize, words: usize) -> u32
-    ensures { result ≡ setFault cap words }
+    ensures { result ≡ set_fault cap words }
 {
     if !paper::capacity_ok(cap) {
         return paper::WRONG_GEOMETRY;
@@ -53,7 +53,7 @@ fn set_fault(cap: usize, words: usize) -> u32
 
 // The same for two sets.
 fn pair_fault(cap: usize, words: usize, other: usize) -> u32
-    ensures { result ≡ pairFault cap words other }
+    ensures { result ≡ pair_fault cap words other }
 {
     let f = set_fault(cap, words);
     if f != 0 {
@@ -67,7 +67,7 @@ fn pair_fault(cap: usize, words: usize, other: usize) -> u32
 
 // The same for one set and an id, which is refused with 3 where it is not below the capacity.
 fn id_fault(cap: usize, words: usize, id: usize) -> u32
-    ensures { result ≡ idFault cap words id }
+    ensures { result ≡ id_fault cap words id }
 {
     let f = set_fault(cap, words);
     if f != 0 {
@@ -81,7 +81,7 @@ fn id_fault(cap: usize, words: usize, id: usize) -> u32
 
 // Makes the set empty. Refuses 1 and 2, and changes nothing then.
 pub fn clear(cap: usize, set: &mut [u64]) -> u32
-    ensures { Changed (setFault cap (length set.old)) (empty (length set.old)) set.old result set.new }
+    ensures { Changed (set_fault cap (length set.old)) (empty (length set.old)) set.old result set.new }
 {
     let f = set_fault(cap, set.len());
     if f != 0 {
@@ -93,7 +93,7 @@ pub fn clear(cap: usize, set: &mut [u64]) -> u32
 
 // The number of ids. Refuses 1 and 2.
 pub fn count(cap: usize, set: &[u64]) -> Counted
-    ensures { CountedIs (setFault cap (length set.now)) (size set.now) result }
+    ensures { CountedIs (set_fault cap (length set.now)) (size set.now) result }
 {
     let f = set_fault(cap, set.len());
     if f != 0 {
@@ -104,7 +104,7 @@ pub fn count(cap: usize, set: &[u64]) -> Counted
 
 // Whether there is no id. Refuses 1 and 2.
 pub fn is_empty(cap: usize, set: &[u64]) -> Asked
-    ensures { AskedIs (setFault cap (length set.now)) (is_empty set.now) result }
+    ensures { AskedIs (set_fault cap (length set.now)) (is_empty set.now) result }
 {
     let f = set_fault(cap, set.len());
     if f != 0 {
@@ -115,7 +115,7 @@ pub fn is_empty(cap: usize, set: &[u64]) -> Asked
 
 // Puts an id into the set. Refuses 1, 2 and 3, and changes nothing then.
 pub fn add(cap: usize, set: &mut [u64], id: usize) -> u32
-    ensures { Changed (idFault cap (length set.old) id) (inserted set.old id) set.old result set.new }
+    ensures { Changed (id_fault cap (length set.old) id) (inserted set.old id) set.old result set.new }
 {
     let f = id_fault(cap, set.len(), id);
     if f != 0 {
@@ -127,7 +127,7 @@ pub fn add(cap: usize, set: &mut [u64], id: usize) -> u32
 
 // Whether the set has an id. Refuses 1, 2 and 3.
 pub fn contains(cap: usize, set: &[u64], id: usize) -> Asked
-    ensures { AskedIs (idFault cap (length set.now) id) (holds set.now id) result }
+    ensures { AskedIs (id_fault cap (length set.now) id) (holds set.now id) result }
 {
     let f = id_fault(cap, set.len(), id);
     if f != 0 {
@@ -139,7 +139,7 @@ pub fn contains(cap: usize, set: &[u64], id: usize) -> Asked
 // The walk: the next id at or after a place. Whoever asks again from one past each answer meets every id once, rising. Refuses 1 and 2; from a
 // place at or past the capacity there is nothing.
 pub fn next(cap: usize, set: &[u64], from: usize) -> Walked
-    ensures { WalkedIs (setFault cap (length set.now)) (first_of (idsFrom set.now from)) result }
+    ensures { WalkedIs (set_fault cap (length set.now)) (first_of (ids_from set.now from)) result }
 {
     let f = set_fault(cap, set.len());
     if f != 0 {
@@ -153,7 +153,7 @@ pub fn next(cap: usize, set: &[u64], from: usize) -> Walked
 
 // Takes the second set's ids out of the first. Refuses 1 and 2, and changes nothing then.
 pub fn and_not(cap: usize, a: &mut [u64], b: &[u64]) -> u32
-    ensures { Changed (pairFault cap (length a.old) (length b.now)) (without a.old b.now) a.old result a.new }
+    ensures { Changed (pair_fault cap (length a.old) (length b.now)) (without a.old b.now) a.old result a.new }
 {
     let f = pair_fault(cap, a.len(), b.len());
     if f != 0 {
@@ -165,7 +165,7 @@ pub fn and_not(cap: usize, a: &mut [u64], b: &[u64]) -> u32
 
 // Puts the second set's ids into the first. Refuses 1 and 2, and changes nothing then.
 pub fn or(cap: usize, a: &mut [u64], b: &[u64]) -> u32
-    ensures { Changed (pairFault cap (length a.old) (length b.now)) (union a.old b.now) a.old result a.new }
+    ensures { Changed (pair_fault cap (length a.old) (length b.now)) (union a.old b.now) a.old result a.new }
 {
     let f = pair_fault(cap, a.len(), b.len());
     if f != 0 {
@@ -177,7 +177,7 @@ pub fn or(cap: usize, a: &mut [u64], b: &[u64]) -> u32
 
 // Leaves in the first set the ids that just one of the two has. Refuses 1 and 2, and changes nothing then.
 pub fn xor(cap: usize, a: &mut [u64], b: &[u64]) -> u32
-    ensures { Changed (pairFault cap (length a.old) (length b.now)) (exclusive a.old b.now) a.old result a.new }
+    ensures { Changed (pair_fault cap (length a.old) (length b.now)) (exclusive a.old b.now) a.old result a.new }
 {
     let f = pair_fault(cap, a.len(), b.len());
     if f != 0 {

@@ -12,12 +12,12 @@ use Rattle.index_memory.proofs.Places.{part-is}
 use Rattle.bitmaps.specs.Words.{size}
 use Rattle.bitmaps.proofs.Size.{size-le}
 use Rattle.bitmaps.proofs.Digits.{Words}
-use Rattle.counting_bitmap.specs.Layers.{empty, merged, fallen, mergedAll, droppedAll}
-use Rattle.vector.specs.Finite.{allFinite}
+use Rattle.counting_bitmap.specs.Layers.{empty, merged, fallen, merged_all, dropped_all}
+use Rattle.vector.specs.Finite.{all_finite}
 use Rattle.basis.specs.Project.{projected}
-use Rattle.basis.specs.Bases.{basisAt, projectionAt}
+use Rattle.basis.specs.Bases.{basis_at, projection_at}
 use Rattle.faces.specs.Slots.{slots}
-use Rattle.candidates.specs.Gathering.{joined, unionOf, facesAt, Query, targetOn, targetFinite, unionAt, unionsFrom, layersOf, droppedOf, BasisIs, GatherIs}
+use Rattle.candidates.specs.Gathering.{joined, union_of, faces_at, Query, target_on, target_finite, union_at, unions_from, layers_of, dropped_of, BasisIs, GatherIs}
 use Rattle.candidates.specs.declared.Gathered.{Gathered}
 
 -- a product, where the factors' names change
@@ -35,8 +35,8 @@ was-not false r e z = refl
 
 -- ---- the two ways out of one basis
 
-pub union-is : (picks w : ℕ) (fs : List ℕ) (p p' : List Float) (s u : List ℕ) → s ≡ empty w → p' ≡ p → u ≡ joined (length s) fs s (slots picks p') → u ≡ unionOf picks w fs p
-unfolding unionOf
+pub union-is : (picks w : ℕ) (fs : List ℕ) (p p' : List Float) (s u : List ℕ) → s ≡ empty w → p' ≡ p → u ≡ joined (length s) fs s (slots picks p') → u ≡ union_of picks w fs p
+unfolding union_of
 union-is picks w fs p p' s u es ep eu = rw (eu, ep, es, length-replicate)
 
 -- at most all ids fall off
@@ -44,10 +44,10 @@ pub few-of : (d : ℕ) (s : List ℕ) → Words s → length s ≤ 1024 → d �
 few-of d s w l e = omega (arith, size-le s w)
 
 module _ (n w picks : ℕ) (bs : List Float) (fs : List ℕ) (t : List Float) (ls ls' : List ℕ) where
-  pub basis-bad : allFinite (projected bs t) ≡ false → BasisIs n w picks bs fs t ls (record { refusal = 7; dropped = 0 }) ls'
+  pub basis-bad : all_finite (projected bs t) ≡ false → BasisIs n w picks bs fs t ls (record { refusal = 7; dropped = 0 }) ls'
   basis-bad e = record { answer = rw e; few = omega arith; layers = λ (z : ◌≡◌ {A = ℕ} 7 0). absurd (omega arith); dropped = λ (z : ◌≡◌ {A = ℕ} 7 0). absurd (omega arith) }
 
-  pub basis-good : (dr : ℕ) (u : List ℕ) → allFinite (projected bs t) ≡ true → dr ≤ 65536 → u ≡ unionOf picks w fs (projected bs t)
+  pub basis-good : (dr : ℕ) (u : List ℕ) → all_finite (projected bs t) ≡ true → dr ≤ 65536 → u ≡ union_of picks w fs (projected bs t)
       → ls' ≡ merged n w ls u → dr ≡ size (fallen n w ls u) → BasisIs n w picks bs fs t ls (record { refusal = 0; dropped = dr }) ls'
   basis-good dr u e f eu el ed =
       record { answer = rw e; few = f; layers = λ z. el ∙ ap (merged n w ls) eu; dropped = λ z. ed ∙ ap (λ (x : List ℕ). size (fallen n w ls x)) eu }
@@ -57,19 +57,19 @@ module _ (n w picks : ℕ) (bs : List Float) (fs : List ℕ) (t : List Float) (l
 module _ (q : Query) (n b p f w : ℕ) (ls ls' : List ℕ) (r : Gathered)
     (ep : p ≡ b * (length q.target * length q.target)) (ef : f ≡ b * (2 * length q.target * q.w)) (ew : w ≡ q.w)
     (o : BasisIs n w q.picks (take (p + length q.target * length q.target - p) (drop p q.bases)) (take (f + 2 * length q.target * q.w - f) (drop f q.faces)) q.target ls r ls') where
-  one : BasisIs n q.w q.picks (basisAt q.bases (length q.target) b) (facesAt q.faces (length q.target) q.w b) q.target ls r ls'
+  one : BasisIs n q.w q.picks (basis_at q.bases (length q.target) b) (faces_at q.faces (length q.target) q.w b) q.target ls r ls'
   one = rw (part-is b (length q.target * length q.target) p q.bases ep, part-is b (2 * length q.target * q.w) f q.faces ef, ew) at o
 
-  pub one_answer : r.refusal ≡ refuse 7 (allFinite (targetOn q b)) 0
-  unfolding projectionAt
-  one_answer = one.answer
+  pub one-answer : r.refusal ≡ refuse 7 (all_finite (target_on q b)) 0
+  unfolding projection_at
+  one-answer = one.answer
 
-  pub one-layers : r.refusal ≡ 0 → ls' ≡ merged n q.w ls (unionAt q b)
-  unfolding projectionAt unionAt
+  pub one-layers : r.refusal ≡ 0 → ls' ≡ merged n q.w ls (union_at q b)
+  unfolding projection_at union_at
   one-layers z = one.layers z
 
-  pub one-dropped : r.refusal ≡ 0 → r.dropped ≡ size (fallen n q.w ls (unionAt q b))
-  unfolding projectionAt unionAt
+  pub one-dropped : r.refusal ≡ 0 → r.dropped ≡ size (fallen n q.w ls (union_at q b))
+  unfolding projection_at union_at
   one-dropped z = one.dropped z
 
 -- ---- what is left
@@ -78,33 +78,33 @@ module _ (q : Query) (n b : ℕ) (h : b < n) where
   more : n - b ≡ suc (n - (b + 1))
   more = omega arith
 
-  unions-more : unionsFrom q (n - b) b ≡ unionAt q b ∷ unionsFrom q (n - (b + 1)) (b + 1)
-  unfolding unionsFrom
+  unions-more : unions_from q (n - b) b ≡ union_at q b ∷ unions_from q (n - (b + 1)) (b + 1)
+  unfolding unions_from
   unions-more = rw (more, add-one)
 
-  pub merged-more : (ls ls' : List ℕ) → ls' ≡ merged n q.w ls (unionAt q b) → mergedAll n q.w ls' (unionsFrom q (n - (b + 1)) (b + 1)) ≡ mergedAll n q.w ls (unionsFrom q (n - b) b)
-  unfolding mergedAll
+  pub merged-more : (ls ls' : List ℕ) → ls' ≡ merged n q.w ls (union_at q b) → merged_all n q.w ls' (unions_from q (n - (b + 1)) (b + 1)) ≡ merged_all n q.w ls (unions_from q (n - b) b)
+  unfolding merged_all
   merged-more ls ls' e = rw (unions-more, e)
 
-  pub dropped-more : (ls ls' : List ℕ) → ls' ≡ merged n q.w ls (unionAt q b) → droppedAll n q.w ls (unionsFrom q (n - b) b) ≡ size (fallen n q.w ls (unionAt q b)) + droppedAll n q.w ls' (unionsFrom q (n - (b + 1)) (b + 1))
-  unfolding droppedAll
+  pub dropped-more : (ls ls' : List ℕ) → ls' ≡ merged n q.w ls (union_at q b) → dropped_all n q.w ls (unions_from q (n - b) b) ≡ size (fallen n q.w ls (union_at q b)) + dropped_all n q.w ls' (unions_from q (n - (b + 1)) (b + 1))
+  unfolding dropped_all
   dropped-more ls ls' e = rw (unions-more, e)
 
 module _ (q : Query) (n : ℕ) where
-  pub gather-stopped : (ls : List ℕ) → targetFinite q n ≡ false → GatherIs n q (record { refusal = 7; dropped = 0 }) ls
+  pub gather-stopped : (ls : List ℕ) → target_finite q n ≡ false → GatherIs n q (record { refusal = 7; dropped = 0 }) ls
   gather-stopped ls e =
       record { answer = rw e; layers = λ (z : ◌≡◌ {A = ℕ} 7 0). absurd (omega arith); dropped = λ (z : ◌≡◌ {A = ℕ} 7 0). absurd (omega arith) }
 
   pub gather-ended : (b : ℕ) (ls : List ℕ) (total : ℕ) → n ≤ b → b ≤ n
-      → targetFinite q b ≡ true
-      → mergedAll n q.w ls (unionsFrom q (n - b) b) ≡ layersOf n q
-      → total + droppedAll n q.w ls (unionsFrom q (n - b) b) ≡ droppedOf n q
+      → target_finite q b ≡ true
+      → merged_all n q.w ls (unions_from q (n - b) b) ≡ layers_of n q
+      → total + dropped_all n q.w ls (unions_from q (n - b) b) ≡ dropped_of n q
       → GatherIs n q (record { refusal = 0; dropped = total }) ls
-  unfolding unionsFrom mergedAll droppedAll
+  unfolding unions_from merged_all dropped_all
   gather-ended b ls total h l i m d =
       let z : n - b ≡ 0 = omega arith in
       let e : n ≡ b = omega arith in
-      let yes : targetFinite q n ≡ true = ap (targetFinite q) e ∙ i in
-      let m' : ls ≡ layersOf n q = rw z at m in
-      let d' : total + 0 ≡ droppedOf n q = rw z at d in
+      let yes : target_finite q n ≡ true = ap (target_finite q) e ∙ i in
+      let m' : ls ≡ layers_of n q = rw z at m in
+      let d' : total + 0 ≡ dropped_of n q = rw z at d in
       record { answer = rw yes; layers = λ x. m'; dropped = λ x. omega (arith, d') }

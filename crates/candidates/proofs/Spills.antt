@@ -7,11 +7,11 @@ use lib.Ieee.{Float}
 use lib.ListN.{take, drop}
 use Rattle.index_memory.proofs.Places.{part-is}
 use Rattle.bitmaps.specs.Words.{union}
-use Rattle.faces.specs.Slots.{slot_of, pickedOf, slots}
+use Rattle.faces.specs.Slots.{slot_of, picked_of, slots}
 use Rattle.candidates.specs.Gathering.{joined}
 
 pub spill-turn : (picks i w slot : ℕ) (fs : List ℕ) (p p' : List Float) (s s' : List ℕ)
-    → i < picks → slot ≡ slot_of p → p' ≡ pickedOf p → s' ≡ union s (take (slot * w + w - slot * w) (drop (slot * w) fs))
+    → i < picks → slot ≡ slot_of p → p' ≡ picked_of p → s' ≡ union s (take (slot * w + w - slot * w) (drop (slot * w) fs))
     → joined w fs s' (slots (picks - (i + 1)) p') ≡ joined w fs s (slots (picks - i) p)
 unfolding joined slots
 spill-turn picks i w slot fs p p' s s' h es ep e =

@@ -8,19 +8,19 @@ use lib.Arith.{digits_lt}
 use lib.Ieee.{Float}
 use lib.ListN.{length, take, drop, length-replicate}
 use lib.Seq.{get_or-take, get_or-drop}
-use Rattle.paper.specs.Geometry.{setWords}
-use Rattle.index_memory.specs.Memory.{faceBit}
+use Rattle.paper.specs.Geometry.{set_words}
+use Rattle.index_memory.specs.Memory.{face_bit}
 use Rattle.index_memory.proofs.Places.{part-long, part-is, face-bit-word, face-bit-digit}
 use Rattle.bitmaps.specs.Words.{has, union}
-use Rattle.bitmaps.proofs.Zip.{byWord-length}
+use Rattle.bitmaps.proofs.Zip.{by_word-length}
 use Rattle.bitmaps.proofs.Digits.{has-union}
 use Rattle.bitmaps.proofs.Members.{has-empty}
 use Rattle.counting_bitmap.specs.Layers.{empty, layer, times, Sized, none, more}
 use Rattle.counting_bitmap.proofs.Counting.{counts}
 use Rattle.counting_bitmap.proofs.Dropped.{drops-nothing}
-use Rattle.faces.specs.Slots.{slot_of, pickedOf, slots, picks_of}
+use Rattle.faces.specs.Slots.{slot_of, picked_of, slots, picks_of}
 use Rattle.faces.proofs.Slots.{slot-low, length-picked, slots-begin, picks_more}
-use Rattle.candidates.specs.Gathering.{faceSet, joined, unionOf, inAny, Query, facesAt, targetOn, unionAt, unionsFrom, layersOf, droppedOf}
+use Rattle.candidates.specs.Gathering.{face_set, joined, union_of, in_any, Query, faces_at, target_on, union_at, unions_from, layers_of, dropped_of}
 
 -- ---- one address for a face set
 
@@ -29,16 +29,16 @@ word_of : (b e slot w k : ℕ) → b * (e * w) + (slot * w + k) ≡ (b * e + slo
 word_of b e slot w k = rw (← mul_assoc b e w, add-mul (b * e) slot w, add_assoc (b * e * w) (slot * w) k)
 
 pub face-set-has : (fs : List ℕ) (d cap b slot id : ℕ) → cap % 64 ≡ 0 → slot < 2 * d → id < cap
-    → has (faceSet (setWords cap) (facesAt fs d (setWords cap) b) slot) id ≡ has fs (faceBit d cap b slot id)
+    → has (face_set (set_words cap) (faces_at fs d (set_words cap) b) slot) id ≡ has fs (face_bit d cap b slot id)
 face-set-has fs d cap b slot id e s h =
-    let w = setWords cap in
+    let w = set_words cap in
     let l : id / 64 < w = omega arith in
     let m : slot * w + id / 64 < 2 * d * w = digits_lt s l in
     rw (
       face-bit-word d cap b slot id e,
       face-bit-digit d cap b slot id e,
-      get_or-take w (drop (slot * w) (facesAt fs d w b)) (id / 64) 0 l,
-      get_or-drop (slot * w) (facesAt fs d w b) (id / 64) 0,
+      get_or-take w (drop (slot * w) (faces_at fs d w b)) (id / 64) 0 l,
+      get_or-drop (slot * w) (faces_at fs d w b) (id / 64) 0,
       get_or-take (2 * d * w) (drop (b * (2 * d * w)) fs) (slot * w + id / 64) 0 m,
       get_or-drop (b * (2 * d * w)) fs (slot * w + id / 64) 0,
       word_of b (2 * d) slot w (id / 64),
@@ -49,70 +49,70 @@ face-set-has fs d cap b slot id e s h =
 joined-long : (w : ℕ) (fs s xs : List ℕ) → length (joined w fs s xs) ≡ length s
 unfolding joined
 joined-long w fs s [] = refl
-joined-long w fs s (x ∷ xs) = joined-long w fs (union s (faceSet w fs x)) xs ∙ byWord-length _ s (faceSet w fs x)
+joined-long w fs s (x ∷ xs) = joined-long w fs (union s (face_set w fs x)) xs ∙ by_word-length _ s (face_set w fs x)
 
-pub union-long : (picks w : ℕ) (fs : List ℕ) (p : List Float) → length (unionOf picks w fs p) ≡ w
-unfolding unionOf
+pub union-long : (picks w : ℕ) (fs : List ℕ) (p : List Float) → length (union_of picks w fs p) ≡ w
+unfolding union_of
 union-long picks w fs p = joined-long w fs (empty w) (slots picks p) ∙ length-replicate w 0
 
 joined-has : (m w : ℕ) (fs : List ℕ) (p : List Float) (s : List ℕ) (id : ℕ) → 1 ≤ length p → length fs ≡ 2 * length p * w → length s ≡ w
-    → has (joined w fs s (slots m p)) id ≡ max (has s id) (inAny w fs (slots m p) id)
-unfolding joined slots inAny
+    → has (joined w fs s (slots m p)) id ≡ max (has s id) (in_any w fs (slots m p) id)
+unfolding joined slots in_any
 joined-has zero w fs p s id h l e = omega arith
 joined-has (suc m) w fs p s id h l e =
-    let face = faceSet w fs (slot_of p) in
+    let face = face_set w fs (slot_of p) in
     let long : length face ≡ w = ap length (sym (part-is (slot_of p) w (slot_of p * w) fs refl)) ∙ part-long (slot_of p) (2 * length p) w (slot_of p * w) fs (slot-low p h) refl l in
-    let k : length (pickedOf p) ≡ length p = length-picked p in
-    let l' : length fs ≡ 2 * length (pickedOf p) * w = rw k l in
-    let ih = joined-has m w fs (pickedOf p) (union s face) id (omega arith) l' (byWord-length _ s face ∙ e) in
+    let k : length (picked_of p) ≡ length p = length-picked p in
+    let l' : length fs ≡ 2 * length (picked_of p) * w = rw k l in
+    let ih = joined-has m w fs (picked_of p) (union s face) id (omega arith) l' (by_word-length _ s face ∙ e) in
     let u = has-union s face (e ∙ sym long) id in
     omega (arith, ih, u)
 
 -- an id is in the union exactly if one of the picked face sets has it
 pub union-has : (picks w : ℕ) (fs : List ℕ) (p : List Float) (id : ℕ) → 1 ≤ length p → length fs ≡ 2 * length p * w
-    → has (unionOf picks w fs p) id ≡ inAny w fs (slots picks p) id
-unfolding unionOf
+    → has (union_of picks w fs p) id ≡ in_any w fs (slots picks p) id
+unfolding union_of
 union-has picks w fs p id h l = omega (arith, joined-has picks w fs p (empty w) id h l (length-replicate w 0), has-empty w id)
 
 -- ---- a larger spill keeps every id of the union
 
-any-fewer : (w : ℕ) (fs xs : List ℕ) (m id : ℕ) → inAny w fs (take m xs) id ≤ inAny w fs xs id
-unfolding inAny
+any-fewer : (w : ℕ) (fs xs : List ℕ) (m id : ℕ) → in_any w fs (take m xs) id ≤ in_any w fs xs id
+unfolding in_any
 any-fewer w fs xs zero id = omega arith
 any-fewer w fs [] (suc m) id = omega arith
 any-fewer w fs (x ∷ xs) (suc m) id = omega (arith, any-fewer w fs xs m id)
 
 pub union-grows : (m n w : ℕ) (fs : List ℕ) (p : List Float) (id : ℕ) → m ≤ n → 1 ≤ length p → length fs ≡ 2 * length p * w
-    → has (unionOf m w fs p) id ≤ has (unionOf n w fs p) id
+    → has (union_of m w fs p) id ≤ has (union_of n w fs p) id
 union-grows m n w fs p id h d l =
     let few = any-fewer w fs (slots n p) m id in
-    let begin : inAny w fs (take m (slots n p)) id ≡ inAny w fs (slots m p) id = ap (λ (xs : List ℕ). inAny w fs xs id) (slots-begin m n p h) in
+    let begin : in_any w fs (take m (slots n p)) id ≡ in_any w fs (slots m p) id = ap (λ (xs : List ℕ). in_any w fs xs id) (slots-begin m n p h) in
     omega (arith, few, begin, union-has m w fs p id d l, union-has n w fs p id d l)
 
 -- for the picks of two spills, each held to d - 1
 pub spill-grows : (d s t w : ℕ) (fs : List ℕ) (p : List Float) (id : ℕ) → s ≤ t → 1 ≤ length p → length fs ≡ 2 * length p * w
-    → has (unionOf (picks_of d s) w fs p) id ≤ has (unionOf (picks_of d t) w fs p) id
+    → has (union_of (picks_of d s) w fs p) id ≤ has (union_of (picks_of d t) w fs p) id
 spill-grows d s t w fs p id h = union-grows (picks_of d s) (picks_of d t) w fs p id (picks_more d s t h)
 
 -- ---- the layers
 
-unions-sized : (q : Query) (m b : ℕ) → Sized q.w (unionsFrom q m b)
-unfolding unionsFrom unionAt
+unions-sized : (q : Query) (m b : ℕ) → Sized q.w (unions_from q m b)
+unfolding unions_from union_at
 unions-sized q zero b = none
 unions-sized q (suc m) b =
-    more (union-long q.picks q.w (facesAt q.faces (length q.target) q.w b) (targetOn q b)) (unions-sized q m (suc b))
+    more (union-long q.picks q.w (faces_at q.faces (length q.target) q.w b) (target_on q b)) (unions-sized q m (suc b))
 
-unions-many : (q : Query) (m b : ℕ) → length (unionsFrom q m b) ≡ m
-unfolding unionsFrom
+unions-many : (q : Query) (m b : ℕ) → length (unions_from q m b) ≡ m
+unfolding unions_from
 unions-many q zero b = refl
 unions-many q (suc m) b = ap suc (unions-many q m (suc b))
 
 -- layer j of a search holds exactly the ids that are in more than j of the bases' unions
-pub layer-counts : (n : ℕ) (q : Query) (id j : ℕ) → j < n → has (layer q.w (layersOf n q) j) id ≡ min 1 (times (unionsFrom q n 0) id - j)
-unfolding layersOf
-layer-counts n q id j h = counts n q.w (unionsFrom q n 0) (unions-sized q n 0) id j h
+pub layer-counts : (n : ℕ) (q : Query) (id j : ℕ) → j < n → has (layer q.w (layers_of n q) j) id ≡ min 1 (times (unions_from q n 0) id - j)
+unfolding layers_of
+layer-counts n q id j h = counts n q.w (unions_from q n 0) (unions-sized q n 0) id j h
 
 -- as many unions as layers: a search drops nothing
-pub search-drops-none : (n : ℕ) (q : Query) → droppedOf n q ≡ 0
-unfolding droppedOf
-search-drops-none n q = drops-nothing n q.w (unionsFrom q n 0) (omega (arith, unions-many q n 0)) (unions-sized q n 0)
+pub search-drops-none : (n : ℕ) (q : Query) → dropped_of n q ≡ 0
+unfolding dropped_of
+search-drops-none n q = drops-nothing n q.w (unions_from q n 0) (omega (arith, unions-many q n 0)) (unions-sized q n 0)

@@ -10,11 +10,11 @@ use lib.Ieee.{Float}
 use lib.Seq.{length-take-le}
 use Rattle.bitmaps.specs.Words.{by_word, union, shared}
 use Rattle.bitmaps.proofs.Digits.{Words}
-use Rattle.bitmaps.proofs.Zip.{byWord-length}
+use Rattle.bitmaps.proofs.Zip.{by_word-length}
 use Rattle.bitmaps.proofs.Members.{words-empty}
-use Rattle.counting_bitmap.specs.Layers.{empty, layer, merged, fallen, mergedAll}
+use Rattle.counting_bitmap.specs.Layers.{empty, layer, merged, fallen, merged_all}
 use Rattle.faces.specs.Slots.{slots}
-use Rattle.candidates.specs.Gathering.{faceSet, facesAt, joined, unionOf, Query, targetOn, unionAt, unionsFrom, layersOf}
+use Rattle.candidates.specs.Gathering.{face_set, faces_at, joined, union_of, Query, target_on, union_at, unions_from, layers_of}
 
 words-none : Words []
 words-none i = omega arith
@@ -51,7 +51,7 @@ words-shared = words-join bit_and (and_lt 64)
 words-joined : (w : ℕ) (fs s xs : List ℕ) → Words fs → Words s → Words (joined w fs s xs)
 unfolding joined
 words-joined w fs s [] h k = k
-words-joined w fs s (x ∷ xs) h k = words-joined w fs (union s (faceSet w fs x)) xs h (words-union s (faceSet w fs x) k (words_take w (drop (x * w) fs) (words-drop (x * w) fs h)))
+words-joined w fs s (x ∷ xs) h k = words-joined w fs (union s (face_set w fs x)) xs h (words-union s (face_set w fs x) k (words_take w (drop (x * w) fs) (words-drop (x * w) fs h)))
 
 words-merged : (n w : ℕ) (ls c : List ℕ) → Words ls → Words c → Words (merged n w ls c)
 unfolding merged
@@ -75,28 +75,28 @@ unfolding fallen
 words-fallen zero w ls c e f h = h
 words-fallen (suc n) w ls c e f h =
     let l : length (take w ls) ≡ w = length-take-le w ls (omega arith) in
-    words-fallen n w (drop w ls) (shared (take w ls) c) (simp length-drop (omega arith)) (byWord-length _ (take w ls) c ∙ l) (words-shared-second (take w ls) c (l ∙ sym f) h)
+    words-fallen n w (drop w ls) (shared (take w ls) c) (simp length-drop (omega arith)) (by_word-length _ (take w ls) c ∙ l) (words-shared-second (take w ls) c (l ∙ sym f) h)
 
 -- a union of face sets
-pub words-of-union : (picks w : ℕ) (fs : List ℕ) (p : List Float) → Words fs → Words (unionOf picks w fs p)
-unfolding unionOf
+pub words-of-union : (picks w : ℕ) (fs : List ℕ) (p : List Float) → Words fs → Words (union_of picks w fs p)
+unfolding union_of
 words-of-union picks w fs p h = words-joined w fs (empty w) (slots picks p) h (words-empty w)
 
-words-at : (q : Query) (b : ℕ) → Words q.faces → Words (unionAt q b)
-unfolding unionAt unionOf
+words-at : (q : Query) (b : ℕ) → Words q.faces → Words (union_at q b)
+unfolding union_at union_of
 words-at q b h =
     let d = length q.target in
-    let fs = facesAt q.faces d q.w b in
-    words-joined q.w fs (empty q.w) (slots q.picks (targetOn q b))
+    let fs = faces_at q.faces d q.w b in
+    words-joined q.w fs (empty q.w) (slots q.picks (target_on q b))
     (words_take (2 * d * q.w) (drop (b * (2 * d * q.w)) q.faces) (words-drop (b * (2 * d * q.w)) q.faces h)) (words-empty q.w)
 
-words-all : (n : ℕ) (q : Query) (m b : ℕ) (ls : List ℕ) → Words q.faces → Words ls → Words (mergedAll n q.w ls (unionsFrom q m b))
-unfolding mergedAll unionsFrom
+words-all : (n : ℕ) (q : Query) (m b : ℕ) (ls : List ℕ) → Words q.faces → Words ls → Words (merged_all n q.w ls (unions_from q m b))
+unfolding merged_all unions_from
 words-all n q zero b ls h k = k
-words-all n q (suc m) b ls h k = words-all n q m (suc b) (merged n q.w ls (unionAt q b)) h (words-merged n q.w ls (unionAt q b) k (words-at q b h))
+words-all n q (suc m) b ls h k = words-all n q m (suc b) (merged n q.w ls (union_at q b)) h (words-merged n q.w ls (union_at q b) k (words-at q b h))
 
 -- the layers of a search
-pub layer-words : (n : ℕ) (q : Query) (j : ℕ) → Words q.faces → Words (layer q.w (layersOf n q) j)
-unfolding layersOf
+pub layer-words : (n : ℕ) (q : Query) (j : ℕ) → Words q.faces → Words (layer q.w (layers_of n q) j)
+unfolding layers_of
 layer-words n q j h =
-    words_take q.w (drop (j * q.w) (layersOf n q)) (words-drop (j * q.w) (layersOf n q) (words-all n q n 0 (empty (n * q.w)) h (words-empty (n * q.w))))
+    words_take q.w (drop (j * q.w) (layers_of n q)) (words-drop (j * q.w) (layers_of n q) (words-all n q n 0 (empty (n * q.w)) h (words-empty (n * q.w))))

@@ -2,36 +2,36 @@
 use Rattle.std.specs.Prelude.{ℕ, zero, suc, ◌*◌, ◌≤◌, max, ◌≡◌, Bool, List, [], ◌∷◌, Float, length, take, drop}
 use Rattle.paper.specs.Choice.{refuse}
 use Rattle.bitmaps.specs.Words.{has, union, size}
-use Rattle.counting_bitmap.specs.Layers.{empty, merged, fallen, mergedAll, droppedAll}
-use Rattle.vector.specs.Finite.{allFinite}
+use Rattle.counting_bitmap.specs.Layers.{empty, merged, fallen, merged_all, dropped_all}
+use Rattle.vector.specs.Finite.{all_finite}
 use Rattle.basis.specs.Project.{projected}
-use Rattle.basis.specs.Bases.{projectionAt, projectionsFinite}
+use Rattle.basis.specs.Bases.{projection_at, projections_finite}
 use Rattle.faces.specs.Slots.{slots, HasFace}
 use Rattle.candidates.specs.declared.Gathered.{Gathered}
 
 -- ---- one basis
 
 -- the face sets of basis b: 2d sets of w words
-abbrev pub facesAt : List ℕ → ℕ → ℕ → ℕ → List ℕ
-facesAt fs d w b = take (2 * d * w) (drop (b * (2 * d * w)) fs)
+abbrev pub faces_at : List ℕ → ℕ → ℕ → ℕ → List ℕ
+faces_at fs d w b = take (2 * d * w) (drop (b * (2 * d * w)) fs)
 
 -- the set of a slot among a basis's face sets
-abbrev pub faceSet : ℕ → List ℕ → ℕ → List ℕ
-faceSet w fs slot = take w (drop (slot * w) fs)
+abbrev pub face_set : ℕ → List ℕ → ℕ → List ℕ
+face_set w fs slot = take w (drop (slot * w) fs)
 
 -- a set joined by the face sets of the slots
 unfoldable pub joined : ℕ → List ℕ → List ℕ → List ℕ → List ℕ
 joined w fs s [] = s
-joined w fs s (slot ∷ rest) = joined w fs (union s (faceSet w fs slot)) rest
+joined w fs s (slot ∷ rest) = joined w fs (union s (face_set w fs slot)) rest
 
 -- the union of the face sets that a projection picks
-unfoldable pub unionOf : ℕ → ℕ → List ℕ → List Float → List ℕ
-unionOf picks w fs p = joined w fs (empty w) (slots picks p)
+unfoldable pub union_of : ℕ → ℕ → List ℕ → List Float → List ℕ
+union_of picks w fs p = joined w fs (empty w) (slots picks p)
 
 -- 1 where one of the slots' face sets has the id, else 0
-unfoldable pub inAny : ℕ → List ℕ → List ℕ → ℕ → ℕ
-inAny w fs [] id = 0
-inAny w fs (slot ∷ rest) id = max (has (faceSet w fs slot) id) (inAny w fs rest id)
+unfoldable pub in_any : ℕ → List ℕ → List ℕ → ℕ → ℕ
+in_any w fs [] id = 0
+in_any w fs (slot ∷ rest) id = max (has (face_set w fs slot) id) (in_any w fs rest id)
 
 -- ---- all bases
 
@@ -43,32 +43,32 @@ pub record Query : Type 0 where
   pub w : ℕ
   pub picks : ℕ
 
-abbrev pub queryOf : List Float → List ℕ → List Float → ℕ → ℕ → Query
-queryOf bs fs t w picks = record { bases = bs; faces = fs; target = t; w = w; picks = picks }
+abbrev pub query_of : List Float → List ℕ → List Float → ℕ → ℕ → Query
+query_of bs fs t w picks = record { bases = bs; faces = fs; target = t; w = w; picks = picks }
 
 -- the target's projection on basis b
-abbrev pub targetOn : Query → ℕ → List Float
-targetOn q b = projectionAt (length q.target) q.bases q.target b
+abbrev pub target_on : Query → ℕ → List Float
+target_on q b = projection_at (length q.target) q.bases q.target b
 
 -- whether every entry of its projections on the first n bases is finite
-abbrev pub targetFinite : Query → ℕ → Bool
-targetFinite q n = projectionsFinite (length q.target) q.bases q.target n
+abbrev pub target_finite : Query → ℕ → Bool
+target_finite q n = projections_finite (length q.target) q.bases q.target n
 
 -- basis b's union
-unfoldable pub unionAt : Query → ℕ → List ℕ
-unionAt q b = unionOf q.picks q.w (facesAt q.faces (length q.target) q.w b) (targetOn q b)
+unfoldable pub union_at : Query → ℕ → List ℕ
+union_at q b = union_of q.picks q.w (faces_at q.faces (length q.target) q.w b) (target_on q b)
 
 -- the unions of the m bases from b on
-unfoldable pub unionsFrom : Query → ℕ → ℕ → List (List ℕ)
-unionsFrom q zero b = []
-unionsFrom q (suc m) b = unionAt q b ∷ unionsFrom q m (suc b)
+unfoldable pub unions_from : Query → ℕ → ℕ → List (List ℕ)
+unions_from q zero b = []
+unions_from q (suc m) b = union_at q b ∷ unions_from q m (suc b)
 
 -- the n layers that the unions make, merged one after the other into empty ones, and how many ids fell off the last
-unfoldable pub layersOf : ℕ → Query → List ℕ
-layersOf n q = mergedAll n q.w (empty (n * q.w)) (unionsFrom q n 0)
+unfoldable pub layers_of : ℕ → Query → List ℕ
+layers_of n q = merged_all n q.w (empty (n * q.w)) (unions_from q n 0)
 
-unfoldable pub droppedOf : ℕ → Query → ℕ
-droppedOf n q = droppedAll n q.w (empty (n * q.w)) (unionsFrom q n 0)
+unfoldable pub dropped_of : ℕ → Query → ℕ
+dropped_of n q = dropped_all n q.w (empty (n * q.w)) (unions_from q n 0)
 
 -- ---- what the calls ask and give
 
@@ -88,10 +88,10 @@ pub record BasisArgs (n lb lf lt lw ll w : ℕ) : Type 0 where
 
 -- 7, and nothing is said of the memories, or 0 with the union merged
 pub record BasisIs (n w picks : ℕ) (bs : List Float) (fs : List ℕ) (t : List Float) (ls : List ℕ) (r : Gathered) (ls' : List ℕ) : Type 0 where
-  pub answer : r.refusal ≡ refuse 7 (allFinite (projected bs t)) 0
+  pub answer : r.refusal ≡ refuse 7 (all_finite (projected bs t)) 0
   pub few : r.dropped ≤ 65536
-  pub layers : r.refusal ≡ 0 → ls' ≡ merged n w ls (unionOf picks w fs (projected bs t))
-  pub dropped : r.refusal ≡ 0 → r.dropped ≡ size (fallen n w ls (unionOf picks w fs (projected bs t)))
+  pub layers : r.refusal ≡ 0 → ls' ≡ merged n w ls (union_of picks w fs (projected bs t))
+  pub dropped : r.refusal ≡ 0 → r.dropped ≡ size (fallen n w ls (union_of picks w fs (projected bs t)))
 
 pub record GatherArgs (n lb lf lt lw ll w : ℕ) : Type 0 where
   pub n-high : n ≤ 32
@@ -105,6 +105,6 @@ pub record GatherArgs (n lb lf lt lw ll w : ℕ) : Type 0 where
 
 -- the same for all bases
 pub record GatherIs (n : ℕ) (q : Query) (r : Gathered) (ls' : List ℕ) : Type 0 where
-  pub answer : r.refusal ≡ refuse 7 (targetFinite q n) 0
-  pub layers : r.refusal ≡ 0 → ls' ≡ layersOf n q
-  pub dropped : r.refusal ≡ 0 → r.dropped ≡ droppedOf n q
+  pub answer : r.refusal ≡ refuse 7 (target_finite q n) 0
+  pub layers : r.refusal ≡ 0 → ls' ≡ layers_of n q
+  pub dropped : r.refusal ≡ 0 → r.dropped ≡ dropped_of n q

@@ -1,7 +1,7 @@
 // Gathering, for the search: each call says what it needs of the lengths.
 ghost use Rattle.std.specs.Prelude.{◌≡◌, length};
 ghost use Rattle.faces.specs.Slots.{slots};
-ghost use Rattle.candidates.specs.Gathering.{joined, queryOf, SpillArgs, BasisArgs, BasisIs, GatherArgs, GatherIs};
+ghost use Rattle.candidates.specs.Gathering.{joined, query_of, SpillArgs, BasisArgs, BasisIs, GatherArgs, GatherIs};
 
 use super::Gathered;
 
@@ -65,7 +65,7 @@ pub fn gather(
     picks: usize,
 ) -> Gathered
     requires { GatherArgs n (length bases.now) (length faces.now) (length target.now) (length work.old) (length layers.old) (length set.old) }
-    ensures { GatherIs n (queryOf bases.now faces.now target.now (length set.old) picks) result layers.new }
+    ensures { GatherIs n (query_of bases.now faces.now target.now (length set.old) picks) result layers.new }
 {
     let square = target.len() * target.len();
     let block = 2 * target.len() * set.len();

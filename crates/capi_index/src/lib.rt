@@ -4,12 +4,12 @@
 
 ghost use Rattle.std.specs.Prelude.{◌≡◌};
 ghost use Rattle.paper.specs.Geometry.{geo};
-ghost use Rattle.index_memory.specs.Memory.{ixOf, done, emptyOf};
-ghost use Rattle.adding.specs.Adding.{added, addOf};
-ghost use Rattle.merging.specs.Merging.{mergeOf};
+ghost use Rattle.index_memory.specs.Memory.{ix_of, done, empty_of};
+ghost use Rattle.adding.specs.Adding.{added, add_of};
+ghost use Rattle.merging.specs.Merging.{merge_of};
 ghost use Rattle.vector_store.specs.Search.{works};
 ghost use Rattle.capi_sets.specs.Lists.{outs, listed};
-ghost use Rattle.capi_index.specs.Searches.{scanInto, found, searchInto};
+ghost use Rattle.capi_index.specs.Searches.{scan_into, found, search_into};
 
 mod inner;
 
@@ -24,7 +24,7 @@ pub extern "C" fn bbq_new(
     cap: usize,
     mode: usize,
 ) -> u32
-    ensures { done result (ixOf faces.new marks.new vectors.new) ≡ emptyOf (geo d n cap mode) (ixOf faces.old marks.old vectors.old) }
+    ensures { done result (ix_of faces.new marks.new vectors.new) ≡ empty_of (geo d n cap mode) (ix_of faces.old marks.old vectors.old) }
 {
     index_memory::new_vector_store(faces, marks, vectors, d, n, cap, mode)
 }
@@ -45,7 +45,7 @@ pub extern "C" fn bbq_add_vector(
     mode: usize,
     id: usize,
 ) -> u32
-    ensures { added result (ixOf faces.new marks.new vectors.new) work.new ≡ addOf (geo d n cap mode) bases.now id vector.now (ixOf faces.old marks.old vectors.old) work.old }
+    ensures { added result (ix_of faces.new marks.new vectors.new) work.new ≡ add_of (geo d n cap mode) bases.now id vector.now (ix_of faces.old marks.old vectors.old) work.old }
 {
     adding::add_vector(
         bases, faces, marks, vectors, work, vector, d, n, cap, mode, id,
@@ -66,7 +66,7 @@ pub extern "C" fn bbq_merge(
     cap: usize,
     mode: usize,
 ) -> u32
-    ensures { done result (ixOf faces.new marks.new vectors.new) ≡ mergeOf (geo d n cap mode) (ixOf faces.old marks.old vectors.old) (ixOf faces2.now marks2.now vectors2.now) }
+    ensures { done result (ix_of faces.new marks.new vectors.new) ≡ merge_of (geo d n cap mode) (ix_of faces.old marks.old vectors.old) (ix_of faces2.now marks2.now vectors2.now) }
 {
     merging::merge(
         faces, marks, vectors, faces2, marks2, vectors2, d, n, cap, mode,
@@ -89,7 +89,7 @@ pub extern "C" fn bbq_full_table_scan(
     mode: usize,
     k: usize,
 ) -> u32
-    ensures { listed result (outs ids.new scores.new told.new) ≡ scanInto (geo d n cap mode) marks.now vectors.now target.now k (outs ids.old scores.old told.old) }
+    ensures { listed result (outs ids.new scores.new told.new) ≡ scan_into (geo d n cap mode) marks.now vectors.now target.now k (outs ids.old scores.old told.old) }
 {
     if !paper::geometry_ok(d, n, cap, mode) {
         return paper::WRONG_GEOMETRY;
@@ -126,7 +126,7 @@ pub extern "C" fn bbq_find_nearest(
     spill: usize,
 ) -> u32
     ensures { found result (works work.new layers.new set.new) (outs ids.new scores.new told.new)
-        ≡ searchInto (geo d n cap mode) bases.now (ixOf faces.now marks.now vectors.now) target.now k search_k spill
+        ≡ search_into (geo d n cap mode) bases.now (ix_of faces.now marks.now vectors.now) target.now k search_k spill
         (works work.old layers.old set.old) (outs ids.old scores.old told.old) }
 {
     if !paper::geometry_ok(d, n, cap, mode) {

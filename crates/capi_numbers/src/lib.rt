@@ -3,7 +3,7 @@
 #![tactic(auto)]
 
 ghost use Rattle.std.specs.Prelude.{◌≡◌};
-ghost use Rattle.paper.specs.Geometry.{geo, lengthsOf};
+ghost use Rattle.paper.specs.Geometry.{geo, lengths_of};
 ghost use Rattle.sqrt.specs.Root.{Sqrt};
 ghost use Rattle.quantization.specs.Bf16.{lowered, widened};
 
@@ -38,7 +38,7 @@ pub extern "C" fn bbq_widen(half: u16) -> u32
 // The floats of the bases.
 #[unsafe(no_mangle)]
 pub extern "C" fn bbq_bases_len(d: usize, n: usize, cap: usize, mode: usize) -> usize
-    ensures { result ≡ (lengthsOf (geo d n cap mode)).bases }
+    ensures { result ≡ (lengths_of (geo d n cap mode)).bases }
 {
     paper::lengths_for(d, n, cap, mode).bases
 }
@@ -46,7 +46,7 @@ pub extern "C" fn bbq_bases_len(d: usize, n: usize, cap: usize, mode: usize) -> 
 // The words of the face sets.
 #[unsafe(no_mangle)]
 pub extern "C" fn bbq_faces_len(d: usize, n: usize, cap: usize, mode: usize) -> usize
-    ensures { result ≡ (lengthsOf (geo d n cap mode)).faces }
+    ensures { result ≡ (lengths_of (geo d n cap mode)).faces }
 {
     paper::lengths_for(d, n, cap, mode).faces
 }
@@ -54,7 +54,7 @@ pub extern "C" fn bbq_faces_len(d: usize, n: usize, cap: usize, mode: usize) -> 
 // The words of the present marks.
 #[unsafe(no_mangle)]
 pub extern "C" fn bbq_marks_len(d: usize, n: usize, cap: usize, mode: usize) -> usize
-    ensures { result ≡ (lengthsOf (geo d n cap mode)).marks }
+    ensures { result ≡ (lengths_of (geo d n cap mode)).marks }
 {
     paper::lengths_for(d, n, cap, mode).marks
 }
@@ -62,7 +62,7 @@ pub extern "C" fn bbq_marks_len(d: usize, n: usize, cap: usize, mode: usize) -> 
 // The bytes of the stored vectors.
 #[unsafe(no_mangle)]
 pub extern "C" fn bbq_vectors_len(d: usize, n: usize, cap: usize, mode: usize) -> usize
-    ensures { result ≡ (lengthsOf (geo d n cap mode)).vectors }
+    ensures { result ≡ (lengths_of (geo d n cap mode)).vectors }
 {
     paper::lengths_for(d, n, cap, mode).vectors
 }
@@ -70,7 +70,7 @@ pub extern "C" fn bbq_vectors_len(d: usize, n: usize, cap: usize, mode: usize) -
 // The floats of the work memory.
 #[unsafe(no_mangle)]
 pub extern "C" fn bbq_work_len(d: usize, n: usize, cap: usize, mode: usize) -> usize
-    ensures { result ≡ (lengthsOf (geo d n cap mode)).floats }
+    ensures { result ≡ (lengths_of (geo d n cap mode)).floats }
 {
     paper::lengths_for(d, n, cap, mode).floats
 }
@@ -78,7 +78,7 @@ pub extern "C" fn bbq_work_len(d: usize, n: usize, cap: usize, mode: usize) -> u
 // The words of a search's counting layers.
 #[unsafe(no_mangle)]
 pub extern "C" fn bbq_layers_len(d: usize, n: usize, cap: usize, mode: usize) -> usize
-    ensures { result ≡ (lengthsOf (geo d n cap mode)).layers }
+    ensures { result ≡ (lengths_of (geo d n cap mode)).layers }
 {
     paper::lengths_for(d, n, cap, mode).layers
 }
@@ -86,7 +86,7 @@ pub extern "C" fn bbq_layers_len(d: usize, n: usize, cap: usize, mode: usize) ->
 // The words of the set that a search merges.
 #[unsafe(no_mangle)]
 pub extern "C" fn bbq_set_len(d: usize, n: usize, cap: usize, mode: usize) -> usize
-    ensures { result ≡ (lengthsOf (geo d n cap mode)).set }
+    ensures { result ≡ (lengths_of (geo d n cap mode)).set }
 {
     paper::lengths_for(d, n, cap, mode).set
 }

@@ -6,61 +6,61 @@ use mathlib.Core.Bool.{true, false}
 use mathlib.Core.List.{List}
 use lib.ListN.{length}
 use borrow.Author.Tests.{eq-eqb, ne_eqb}
-use Rattle.paper.specs.Geometry.{setWords}
+use Rattle.paper.specs.Geometry.{set_words}
 use Rattle.bitmaps.specs.Words.{size}
 use Rattle.counting_bitmap.specs.Layers.{fallen}
 use Rattle.counting_bitmap.specs.TopLayer.{top_of}
-use Rattle.counting_bitmap.specs.Answers.{layersOk, layersFault, mergeFault, mergedOf, MergeIs, topFault, topNumber, chosen_of, ChosenIs}
+use Rattle.counting_bitmap.specs.Answers.{layers_ok, layers_fault, merge_fault, merged_of, MergeIs, top_fault, top_number, chosen_of, ChosenIs}
 use Rattle.counting_bitmap.specs.declared.Merged.{Merged}
 use Rattle.counting_bitmap.specs.declared.Chosen.{Chosen}
 use Rattle.capi_vectors.specs.Single.{Single, single, kept}
 use Rattle.capi_vectors.proofs.Singles.{one-length, one-done}
-use Rattle.capi_sets.specs.Layers.{droppedPut, layerPut, countedIn, orInto, topInto}
+use Rattle.capi_sets.specs.Layers.{dropped_put, layer_put, counted_in, or_into, top_into}
 
-dropped-put : (f d : ℕ) (ys : List ℕ) → droppedPut (mergedOf f d) ys ≡ kept f d ys
+dropped-put : (f d : ℕ) (ys : List ℕ) → dropped_put (merged_of f d) ys ≡ kept f d ys
 dropped-put zero d ys = refl
 dropped-put (suc f) d ys = rw (ne_eqb (suc f) 0 (λ p. omega arith))
 
-layer-put : (f i : ℕ) (ys : List ℕ) → layerPut (chosen_of f i) ys ≡ kept f i ys
+layer-put : (f i : ℕ) (ys : List ℕ) → layer_put (chosen_of f i) ys ≡ kept f i ys
 layer-put zero i ys = refl
 layer-put (suc f) i ys = rw (ne_eqb (suc f) 0 (λ p. omega arith))
 
 -- ---- the highest layer
 
 module _ (cap n : ℕ) (ls : List ℕ) (k : ℕ) (ys : List ℕ) where
-  pub top-shape : layersOk cap n ≡ false → single 1 ys ≡ topInto cap n ls k ys
-  unfolding topInto
+  pub top-shape : layers_ok cap n ≡ false → single 1 ys ≡ top_into cap n ls k ys
+  unfolding top_into
   top-shape h = rw h
 
-  pub top-length : layersOk cap n ≡ true → (length ys ≡ 1 → ⊥) → single 2 ys ≡ topInto cap n ls k ys
-  unfolding topInto
-  top-length h l = rw h (one-length (topFault (layersFault cap n (length ls)) (top_of n (setWords cap) ls k)) (topNumber (top_of n (setWords cap) ls k)) ys l)
+  pub top-length : layers_ok cap n ≡ true → (length ys ≡ 1 → ⊥) → single 2 ys ≡ top_into cap n ls k ys
+  unfolding top_into
+  top-length h l = rw h (one-length (top_fault (layers_fault cap n (length ls)) (top_of n (set_words cap) ls k)) (top_number (top_of n (set_words cap) ls k)) ys l)
 
-  pub top-done : (a : Chosen) (s : Single ℕ) → layersOk cap n ≡ true → length ys ≡ 1 → ChosenIs (layersFault cap n (length ls)) (top_of n (setWords cap) ls k) a → s ≡ layerPut a ys
-      → s ≡ topInto cap n ls k ys
-  unfolding topInto
+  pub top-done : (a : Chosen) (s : Single ℕ) → layers_ok cap n ≡ true → length ys ≡ 1 → ChosenIs (layers_fault cap n (length ls)) (top_of n (set_words cap) ls k) a → s ≡ layer_put a ys
+      → s ≡ top_into cap n ls k ys
+  unfolding top_into
   top-done a s h l q e =
-      let t = top_of n (setWords cap) ls k in
-      let f = topFault (layersFault cap n (length ls)) t in
-      rw h (one-done f (topNumber t) ys l s (e ∙ ap (λ (b : Chosen). layerPut b ys) q.answer ∙ layer-put f (topNumber t) ys))
+      let t = top_of n (set_words cap) ls k in
+      let f = top_fault (layers_fault cap n (length ls)) t in
+      rw h (one-done f (top_number t) ys l s (e ∙ ap (λ (b : Chosen). layer_put b ys) q.answer ∙ layer-put f (top_number t) ys))
 
 -- ---- merging into layers
 
 module _ (cap n : ℕ) (ls s ds : List ℕ) where
-  pub or_shape : layersOk cap n ≡ false → countedIn 1 ls s ds ≡ orInto cap n ls s ds
-  unfolding orInto
+  pub or_shape : layers_ok cap n ≡ false → counted_in 1 ls s ds ≡ or_into cap n ls s ds
+  unfolding or_into
   or_shape h = rw h
 
-  pub or-length : layersOk cap n ≡ true → (length ds ≡ 1 → ⊥) → countedIn 2 ls s ds ≡ orInto cap n ls s ds
-  unfolding orInto
+  pub or-length : layers_ok cap n ≡ true → (length ds ≡ 1 → ⊥) → counted_in 2 ls s ds ≡ or_into cap n ls s ds
+  unfolding or_into
   or-length h l = rw (h, ne_eqb (length ds) 1 l)
 
-  pub or-done : (a : Merged) (ls' s' : List ℕ) (o : Single ℕ) → layersOk cap n ≡ true → length ds ≡ 1
-      → MergeIs (mergeFault cap n (length ls) (length s)) n (setWords cap) ls s a ls' s' → o ≡ droppedPut a ds
-      → countedIn o.answer ls' s' o.out ≡ orInto cap n ls s ds
-  unfolding orInto
+  pub or-done : (a : Merged) (ls' s' : List ℕ) (o : Single ℕ) → layers_ok cap n ≡ true → length ds ≡ 1
+      → MergeIs (merge_fault cap n (length ls) (length s)) n (set_words cap) ls s a ls' s' → o ≡ dropped_put a ds
+      → counted_in o.answer ls' s' o.out ≡ or_into cap n ls s ds
+  unfolding or_into
   or-done a ls' s' o h l q e =
-      let f = mergeFault cap n (length ls) (length s) in
-      let x = size (fallen n (setWords cap) ls s) in
-      let p = e ∙ ap (λ (b : Merged). droppedPut b ds) q.answer ∙ dropped-put f x ds in
-      rw (h, eq-eqb (length ds) 1 l) (λ i. countedIn (p i).answer (q.layers i) (q.left i) (p i).out)
+      let f = merge_fault cap n (length ls) (length s) in
+      let x = size (fallen n (set_words cap) ls s) in
+      let p = e ∙ ap (λ (b : Merged). dropped_put b ds) q.answer ∙ dropped-put f x ds in
+      rw (h, eq-eqb (length ds) 1 l) (λ i. counted_in (p i).answer (q.layers i) (q.left i) (p i).out)

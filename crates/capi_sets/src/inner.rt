@@ -1,10 +1,10 @@
 // What these calls and those on an index share: the test of the lent arrays, and writing an answer into them.
 ghost use Rattle.std.specs.Prelude.{◌≡◌, ◌∷◌, [], ◌≤◌, length};
 ghost use Rattle.result.specs.Places.{entries};
-ghost use Rattle.result.specs.Sets.{feedAllOf};
-ghost use Rattle.capi_vectors.specs.Single.{single, laidOver};
-ghost use Rattle.capi_sets.specs.Layers.{droppedPut, layerPut};
-ghost use Rattle.capi_sets.specs.Lists.{roomOk, outs, listed, intoFed, feedingOf, Fits};
+ghost use Rattle.result.specs.Sets.{feed_all_of};
+ghost use Rattle.capi_vectors.specs.Single.{single, laid_over};
+ghost use Rattle.capi_sets.specs.Layers.{dropped_put, layer_put};
+ghost use Rattle.capi_sets.specs.Lists.{room_ok, outs, listed, into_fed, feeding_of, Fits};
 
 use counting_bitmap::{Chosen, Merged};
 use result::{Fed, ResultSet};
@@ -13,7 +13,7 @@ use result::{Fed, ResultSet};
 
 // Whether ids and scores have k places, and `told` has m.
 pub fn room_ok(k: usize, m: usize, ids: usize, scores: usize, told: usize) -> bool
-    ensures { result ≡ roomOk k m ids scores told }
+    ensures { result ≡ room_ok k m ids scores told }
 {
     if ids != k {
         return false;
@@ -27,7 +27,7 @@ pub fn room_ok(k: usize, m: usize, ids: usize, scores: usize, told: usize) -> bo
 // The first n of `from` over the first n of `to`.
 pub fn copy_ids(from: &[u32], n: usize, to: &mut [u32])
     requires { (n ≤ length from.now) × (n ≤ length to.old) }
-    ensures { to.new ≡ laidOver n from.now to.old }
+    ensures { to.new ≡ laid_over n from.now to.old }
 {
     let mut i = 0;
     while i < n {
@@ -39,7 +39,7 @@ pub fn copy_ids(from: &[u32], n: usize, to: &mut [u32])
 // The same for scores.
 pub fn copy_scores(from: &[f32], n: usize, to: &mut [f32])
     requires { (n ≤ length from.now) × (n ≤ length to.old) }
-    ensures { to.new ≡ laidOver n from.now to.old }
+    ensures { to.new ≡ laid_over n from.now to.old }
 {
     let mut i = 0;
     while i < n {
@@ -60,7 +60,7 @@ pub fn tell_two(told: &mut [u32], a: u32, b: u32)
 // A ranked set into the arrays, with its length and count told; a refused one changes nothing. The answer is the refusal.
 pub fn put_fed(fed: Fed, ids: &mut [u32], scores: &mut [f32], told: &mut [u32]) -> u32
     requires { (fed.refusal ≡ 0 → Fits fed.set (length ids.old) (length scores.old)) × (length told.old ≡ 2) }
-    ensures { listed result (outs ids.new scores.new told.new) ≡ intoFed fed (outs ids.old scores.old told.old) }
+    ensures { listed result (outs ids.new scores.new told.new) ≡ into_fed fed (outs ids.old scores.old told.old) }
 {
     if fed.refusal != 0 {
         return fed.refusal;
@@ -78,7 +78,7 @@ pub fn put_fed(fed: Fed, ids: &mut [u32], scores: &mut [f32], told: &mut [u32]) 
 // Feeds the pairs of two arrays in turn, up to the first refusal.
 pub fn feed_all(set: ResultSet, ids: &[u32], scores: &[f32]) -> Fed
     requires { length ids.now ≡ length scores.now }
-    ensures { result ≡ feedAllOf set (entries (length ids.now) ids.now scores.now) }
+    ensures { result ≡ feed_all_of set (entries (length ids.now) ids.now scores.now) }
 {
     let mut kept = set;
     let mut i = 0;
@@ -99,7 +99,7 @@ pub fn feed_all(set: ResultSet, ids: &[u32], scores: &[f32]) -> Fed
 // A new set with k, fed so.
 pub fn feed_new(k: usize, ids: &[u32], scores: &[f32]) -> Fed
     requires { length ids.now ≡ length scores.now }
-    ensures { result ≡ feedingOf k ids.now scores.now }
+    ensures { result ≡ feeding_of k ids.now scores.now }
 {
     let made = ResultSet::new(k);
     if made.refusal != 0 {
@@ -114,7 +114,7 @@ pub fn feed_new(k: usize, ids: &[u32], scores: &[f32]) -> Fed
 // A dropped count into its place; a refusal keeps it.
 pub fn put_dropped(answer: Merged, out: &mut [u32]) -> u32
     requires { length out.old ≡ 1 }
-    ensures { single result out.new ≡ droppedPut answer out.old }
+    ensures { single result out.new ≡ dropped_put answer out.old }
 {
     match answer {
         Merged::Dropped(x) => {
@@ -128,7 +128,7 @@ pub fn put_dropped(answer: Merged, out: &mut [u32]) -> u32
 // A layer's number into its place; a refusal keeps it.
 pub fn put_layer(answer: Chosen, out: &mut [usize]) -> u32
     requires { length out.old ≡ 1 }
-    ensures { single result out.new ≡ layerPut answer out.old }
+    ensures { single result out.new ≡ layer_put answer out.old }
 {
     match answer {
         Chosen::Layer(i) => {

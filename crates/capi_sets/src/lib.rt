@@ -4,8 +4,8 @@
 
 ghost use Rattle.std.specs.Prelude.{◌≡◌};
 ghost use Rattle.capi_vectors.specs.Single.{single};
-ghost use Rattle.capi_sets.specs.Layers.{countedIn, orInto, topInto};
-ghost use Rattle.capi_sets.specs.Lists.{outs, listed, feedInto};
+ghost use Rattle.capi_sets.specs.Layers.{counted_in, or_into, top_into};
+ghost use Rattle.capi_sets.specs.Lists.{outs, listed, feed_into};
 
 pub mod inner;
 
@@ -19,7 +19,7 @@ pub extern "C" fn bbq_counting_or(
     n: usize,
     dropped: &mut [u32],
 ) -> u32
-    ensures { countedIn result layers.new set.new dropped.new ≡ orInto cap n layers.old set.old dropped.old }
+    ensures { counted_in result layers.new set.new dropped.new ≡ or_into cap n layers.old set.old dropped.old }
 {
     if !counting_bitmap::inner::layers_ok(cap, n) {
         return paper::WRONG_GEOMETRY;
@@ -41,7 +41,7 @@ pub extern "C" fn bbq_top_k(
     search_k: usize,
     layer: &mut [usize],
 ) -> u32
-    ensures { single result layer.new ≡ topInto cap n layers.now search_k layer.old }
+    ensures { single result layer.new ≡ top_into cap n layers.now search_k layer.old }
 {
     if !counting_bitmap::inner::layers_ok(cap, n) {
         return paper::WRONG_GEOMETRY;
@@ -65,7 +65,7 @@ pub extern "C" fn bbq_feed(
     out_scores: &mut [f32],
     told: &mut [u32],
 ) -> u32
-    ensures { listed result (outs out_ids.new out_scores.new told.new) ≡ feedInto k ids.now scores.now (outs out_ids.old out_scores.old told.old) }
+    ensures { listed result (outs out_ids.new out_scores.new told.new) ≡ feed_into k ids.now scores.now (outs out_ids.old out_scores.old told.old) }
 {
     if ids.len() != scores.len() {
         return paper::WRONG_LENGTH;

@@ -15,9 +15,9 @@ abbrev pub kept : {A : Type 0} → ℕ → A → List A → Single A
 kept num x ys = single num (pick (eqb num 0) (x ∷ []) ys)
 
 -- the same, with 2 for a place of another length
-unfoldable pub intoOne : {A : Type 0} → ℕ → A → List A → Single A
-intoOne num x ys = pick (eqb (length ys) 1) (kept num x ys) (single 2 ys)
+unfoldable pub into_one : {A : Type 0} → ℕ → A → List A → Single A
+into_one num x ys = pick (eqb (length ys) 1) (kept num x ys) (single 2 ys)
 
 -- the first n of xs over the first n of ys
-abbrev pub laidOver : {A : Type 0} → ℕ → List A → List A → List A
-laidOver n xs ys = take n xs ++ drop n ys
+abbrev pub laid_over : {A : Type 0} → ℕ → List A → List A → List A
+laid_over n xs ys = take n xs ++ drop n ys

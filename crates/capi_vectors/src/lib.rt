@@ -5,11 +5,11 @@
 ghost use Rattle.std.specs.Prelude.{◌≡◌, eqb, length};
 ghost use Rattle.paper.specs.Choice.{refuse};
 ghost use Rattle.sqrt.specs.RootOf.{root};
-ghost use Rattle.vector.specs.Fold.{dotOf, squaresOf};
-ghost use Rattle.vector.specs.Norm.{normNumber, normalized, normal};
+ghost use Rattle.vector.specs.Fold.{dot_of, squares_of};
+ghost use Rattle.vector.specs.Norm.{norm_number, normalized, normal};
 ghost use Rattle.ortho.specs.Ortho.{written, orthonormalized};
-ghost use Rattle.capi_vectors.specs.Single.{single, intoOne};
-ghost use Rattle.capi_vectors.specs.Projections.{faceInto, spilt, spillInto};
+ghost use Rattle.capi_vectors.specs.Single.{single, into_one};
+ghost use Rattle.capi_vectors.specs.Projections.{face_into, spilt, spill_into};
 
 mod inner;
 
@@ -18,7 +18,7 @@ mod inner;
 // The dot product in out[0] (vector::dot_product). Refuses 2 for unequal lengths, and for an `out` that isn't of length 1; `out` is then as it was.
 #[unsafe(no_mangle)]
 pub extern "C" fn bbq_dot_product(a: &[f32], b: &[f32], out: &mut [f32]) -> u32
-    ensures { single result out.new ≡ intoOne (refuse 2 (eqb (length a.now) (length b.now)) 0) (dotOf a.now b.now) out.old }
+    ensures { single result out.new ≡ into_one (refuse 2 (eqb (length a.now) (length b.now)) 0) (dot_of a.now b.now) out.old }
 {
     if out.len() != 1 {
         return paper::WRONG_LENGTH;
@@ -30,7 +30,7 @@ pub extern "C" fn bbq_dot_product(a: &[f32], b: &[f32], out: &mut [f32]) -> u32
 // The distance in out[0] (vector::distance). Refuses as the dot product does.
 #[unsafe(no_mangle)]
 pub extern "C" fn bbq_distance(a: &[f32], b: &[f32], out: &mut [f32]) -> u32
-    ensures { single result out.new ≡ intoOne (refuse 2 (eqb (length a.now) (length b.now)) 0) (root (squaresOf a.now b.now)) out.old }
+    ensures { single result out.new ≡ into_one (refuse 2 (eqb (length a.now) (length b.now)) 0) (root (squares_of a.now b.now)) out.old }
 {
     if out.len() != 1 {
         return paper::WRONG_LENGTH;
@@ -42,7 +42,7 @@ pub extern "C" fn bbq_distance(a: &[f32], b: &[f32], out: &mut [f32]) -> u32
 // Divides each component by the norm (vector::normalize). Refuses 5, then 6; the vector is then as it was.
 #[unsafe(no_mangle)]
 pub extern "C" fn bbq_normalize(v: &mut [f32]) -> u32
-    ensures { normal result v.new ≡ normal (normNumber v.old) (normalized v.old) }
+    ensures { normal result v.new ≡ normal (norm_number v.old) (normalized v.old) }
 {
     vector::normalize(v)
 }
@@ -61,7 +61,7 @@ pub extern "C" fn bbq_orthonormalize(basis: &[f32], out: &mut [f32], d: usize, r
 // that isn't finite; `out` is then as it was.
 #[unsafe(no_mangle)]
 pub extern "C" fn bbq_find_face_idx(projection: &[f32], out: &mut [i32]) -> u32
-    ensures { single result out.new ≡ faceInto projection.now out.old }
+    ensures { single result out.new ≡ face_into projection.now out.old }
 {
     if !inner::dims_ok(projection.len()) {
         return paper::WRONG_GEOMETRY;
@@ -77,7 +77,7 @@ pub extern "C" fn bbq_find_face_idx(projection: &[f32], out: &mut [i32]) -> u32
 // Refuses 1 for the projection's length, 2 for an `out` of another length than it, 7 for an entry that isn't finite; both are then as they were.
 #[unsafe(no_mangle)]
 pub extern "C" fn bbq_spill_faces(projection: &mut [f32], spill: usize, out: &mut [i32]) -> u32
-    ensures { spilt result projection.new out.new ≡ spillInto spill projection.old out.old }
+    ensures { spilt result projection.new out.new ≡ spill_into spill projection.old out.old }
 {
     if !inner::dims_ok(projection.len()) {
         return paper::WRONG_GEOMETRY;

@@ -8,10 +8,10 @@ use lib.ListN.{length, take, drop, take-append-drop}
 use lib.Seq.{take-take, drop-drop}
 use Rattle.paper.specs.Choice.{pick}
 use Rattle.steps.specs.Steps.{State, held}
-use Rattle.session.specs.Runs.{Far, feedOf, endText}
+use Rattle.session.specs.Runs.{Far, feed_of, end_text}
 use Rattle.session.specs.Played.{shown, left, Played, stopped, emptied, refilled, ended}
 use Rattle.console.specs.declared.Place.{Place}
-use Rattle.console.specs.Turns.{between, Outside, over, on, nextBy, next_of, Turned, last_of}
+use Rattle.console.specs.Turns.{between, Outside, over, on, next_by, next_of, Turned, last_of}
 use Rattle.console.specs.Laws.{taken}
 
 -- ---- parts of the buffer
@@ -54,28 +54,28 @@ pub so : (b : Bool) → not b ≡ false → b ≡ true
 so true e = refl
 so false e = sym e
 
-module _ (pending : List ℕ) (st : State) (out : List ℕ) (f : Far) (q : f ≡ feedOf pending st out) where
+module _ (pending : List ℕ) (st : State) (out : List ℕ) (f : Far) (q : f ≡ feed_of pending st out) where
   unwritten : over ≡ next_of pending st out (record { wrote = false; more = false; read = [] })
   unfolding next_of
   unwritten = refl
 
   stops-over : f.stops ≡ true → over ≡ next_of pending st out (record { wrote = true; more = false; read = [] })
   unfolding next_of
-  stops-over s = subst (λ (x : Far). over ≡ nextBy x pending (record { wrote = true; more = false; read = [] })) q (rw s refl)
+  stops-over s = subst (λ (x : Far). over ≡ next_by x pending (record { wrote = true; more = false; read = [] })) q (rw s refl)
 
   full-on : f.stops ≡ false → f.waits ≡ false → on (left f pending) f.state ≡ next_of pending st out (record { wrote = true; more = false; read = [] })
   unfolding next_of
-  full-on s w = subst (λ (x : Far). on (left f pending) f.state ≡ nextBy x pending (record { wrote = true; more = false; read = [] })) q (rw (s, w) refl)
+  full-on s w = subst (λ (x : Far). on (left f pending) f.state ≡ next_by x pending (record { wrote = true; more = false; read = [] })) q (rw (s, w) refl)
 
   waits-on : (more : Bool) (read : List ℕ) → f.stops ≡ false → f.waits ≡ true
       → pick more (on (left f pending ++ read) f.state) over ≡ next_of pending st out (record { wrote = true; more = more; read = read })
   unfolding next_of
   waits-on more read s w =
-      subst (λ (x : Far). pick more (on (left f pending ++ read) f.state) over ≡ nextBy x pending (record { wrote = true; more = more; read = read })) q (rw (s, w) refl)
+      subst (λ (x : Far). pick more (on (left f pending ++ read) f.state) over ≡ next_by x pending (record { wrote = true; more = more; read = read })) q (rw (s, w) refl)
 
 -- ---- a turn that meets its contract: what the call of feed, the reading and the places come to
 
-module _ (from end : ℕ) (buf : List ℕ) (st : State) (out : List ℕ) (f : Far) (q : f ≡ feedOf (between from end buf) st out) where
+module _ (from end : ℕ) (buf : List ℕ) (st : State) (out : List ℕ) (f : Far) (q : f ≡ feed_of (between from end buf) st out) where
   -- over: what was put could not be written, or feed stops
   pub ends : (t : Place) (wrote : Bool) → t.goes ≡ false → (wrote ≡ true → f.stops ≡ true) → t.from ≤ t.end → t.end ≤ length buf
       → Turned (between from end buf) st out t buf
@@ -125,38 +125,38 @@ no p s e = let z : ◌≡◌ {A = ℕ} 0 1 = cc in omega arith
 
 module _ (pending : List ℕ) (st : State) (out : List ℕ) (e : Outside) where
   goes_by : (wr s w m : Bool) (pending' : List ℕ) (st' : State) (reads : List (List ℕ)) (text : List ℕ)
-      → (feedOf pending st out).stops ≡ s → (feedOf pending st out).waits ≡ w
-      → pick wr (pick s over (pick w (pick m (on (left (feedOf pending st out) pending ++ e.read) (feedOf pending st out).state) over) (on (left (feedOf pending st out) pending) (feedOf pending st out).state))) over ≡ on pending' st'
-      → Played pending' st' reads text → Played pending st (taken w e reads) (shown (feedOf pending st out) ++ text)
+      → (feed_of pending st out).stops ≡ s → (feed_of pending st out).waits ≡ w
+      → pick wr (pick s over (pick w (pick m (on (left (feed_of pending st out) pending ++ e.read) (feed_of pending st out).state) over) (on (left (feed_of pending st out) pending) (feed_of pending st out).state))) over ≡ on pending' st'
+      → Played pending' st' reads text → Played pending st (taken w e reads) (shown (feed_of pending st out) ++ text)
   goes_by false s w m p' s' rs text es ew h play = absurd (no p' s' h)
   goes_by true true w m p' s' rs text es ew h play = absurd (no p' s' h)
   goes_by true false false m p' s' rs text es ew h play =
-      let a : p' ≡ left (feedOf pending st out) pending = cc in
-      let b : s' ≡ (feedOf pending st out).state = cc in
-      emptied pending st rs out text es ew (subst (λ (x : State). Played (left (feedOf pending st out) pending) x rs text) b (subst (λ (x : List ℕ). Played x s' rs text) a play))
+      let a : p' ≡ left (feed_of pending st out) pending = cc in
+      let b : s' ≡ (feed_of pending st out).state = cc in
+      emptied pending st rs out text es ew (subst (λ (x : State). Played (left (feed_of pending st out) pending) x rs text) b (subst (λ (x : List ℕ). Played x s' rs text) a play))
   goes_by true false true true p' s' rs text es ew h play =
-      let a : p' ≡ left (feedOf pending st out) pending ++ e.read = cc in
-      let b : s' ≡ (feedOf pending st out).state = cc in
-      refilled pending st e.read rs out text es ew (subst (λ (x : State). Played (left (feedOf pending st out) pending ++ e.read) x rs text) b (subst (λ (x : List ℕ). Played x s' rs text) a play))
+      let a : p' ≡ left (feed_of pending st out) pending ++ e.read = cc in
+      let b : s' ≡ (feed_of pending st out).state = cc in
+      refilled pending st e.read rs out text es ew (subst (λ (x : State). Played (left (feed_of pending st out) pending ++ e.read) x rs text) b (subst (λ (x : List ℕ). Played x s' rs text) a play))
   goes_by true false true false p' s' rs text es ew h play = absurd (no p' s' h)
 
-  ends_by : (wr s w m : Bool) → e.wrote ≡ true → wr ≡ e.wrote → (feedOf pending st out).stops ≡ s → (feedOf pending st out).waits ≡ w
-      → pick wr (pick s over (pick w (pick m (on (left (feedOf pending st out) pending ++ e.read) (feedOf pending st out).state) over) (on (left (feedOf pending st out) pending) (feedOf pending st out).state))) over ≡ over
-      → Played pending st [] (shown (feedOf pending st out) ++ pick s [] (endText (left (feedOf pending st out) pending)))
+  ends_by : (wr s w m : Bool) → e.wrote ≡ true → wr ≡ e.wrote → (feed_of pending st out).stops ≡ s → (feed_of pending st out).waits ≡ w
+      → pick wr (pick s over (pick w (pick m (on (left (feed_of pending st out) pending ++ e.read) (feed_of pending st out).state) over) (on (left (feed_of pending st out) pending) (feed_of pending st out).state))) over ≡ over
+      → Played pending st [] (shown (feed_of pending st out) ++ pick s [] (end_text (left (feed_of pending st out) pending)))
   ends_by false s w m t k es ew h = absurd (differ (k ∙ t))
     where
       differ : false ≡ true → ⊥
       differ x = let z : ◌≡◌ {A = ℕ} 0 1 = cc in omega arith
-  ends_by true true w m t k es ew h = subst (λ (x : List ℕ). Played pending st [] x) (sym (append-nil (shown (feedOf pending st out)))) (stopped pending st [] out es)
+  ends_by true true w m t k es ew h = subst (λ (x : List ℕ). Played pending st [] x) (sym (append-nil (shown (feed_of pending st out)))) (stopped pending st [] out es)
   ends_by true false false m t k es ew h = absurd (no _ _ (sym h))
   ends_by true false true true t k es ew h = absurd (no _ _ (sym h))
   ends_by true false true false t k es ew h = ended pending st out es ew
 
   pub turn-goes : (pending' : List ℕ) (st' : State) (reads : List (List ℕ)) (text : List ℕ) → next_of pending st out e ≡ on pending' st' → Played pending' st' reads text
-      → Played pending st (taken (feedOf pending st out).waits e reads) (shown (feedOf pending st out) ++ text)
+      → Played pending st (taken (feed_of pending st out).waits e reads) (shown (feed_of pending st out) ++ text)
   unfolding next_of
-  turn-goes p' s' rs text h play = goes_by e.wrote (feedOf pending st out).stops (feedOf pending st out).waits e.more p' s' rs text refl refl h play
+  turn-goes p' s' rs text h play = goes_by e.wrote (feed_of pending st out).stops (feed_of pending st out).waits e.more p' s' rs text refl refl h play
 
-  pub turn-ends : e.wrote ≡ true → next_of pending st out e ≡ over → Played pending st [] (shown (feedOf pending st out) ++ last_of pending st out)
+  pub turn-ends : e.wrote ≡ true → next_of pending st out e ≡ over → Played pending st [] (shown (feed_of pending st out) ++ last_of pending st out)
   unfolding next_of last_of
-  turn-ends t h = ends_by e.wrote (feedOf pending st out).stops (feedOf pending st out).waits e.more t refl refl refl h
+  turn-ends t h = ends_by e.wrote (feed_of pending st out).stops (feed_of pending st out).waits e.more t refl refl refl h

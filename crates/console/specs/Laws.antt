@@ -1,7 +1,7 @@
 -- The laws of the program's loop: its turns play a run.
 use Rattle.std.specs.Prelude.{◌≡◌, Bool, true, false, List, [], ◌∷◌, ◌++◌, ℕ}
 use Rattle.steps.specs.Steps.{State}
-use Rattle.session.specs.Runs.{feedOf}
+use Rattle.session.specs.Runs.{feed_of}
 use Rattle.session.specs.Played.{shown, Played}
 use Rattle.console.specs.Turns.{Outside, Next, over, on, next_of, last_of}
 
@@ -14,7 +14,7 @@ pub record Laws : Type 0 where
   -- a turn that goes on: what it printed, and then what the run prints from where it stands, is what the run prints
   pub turn-goes : (pending : List ℕ) (st : State) (out : List ℕ) (e : Outside) (pending' : List ℕ) (st' : State) (reads : List (List ℕ)) (text : List ℕ)
       → next_of pending st out e ≡ on pending' st' → Played pending' st' reads text
-      → Played pending st (taken (feedOf pending st out).waits e reads) (shown (feedOf pending st out) ++ text)
+      → Played pending st (taken (feed_of pending st out).waits e reads) (shown (feed_of pending st out) ++ text)
   -- a turn after which the run is over, though all was written: feed stopped, or the input has ended and what the end prints was printed last
   pub turn-ends : (pending : List ℕ) (st : State) (out : List ℕ) (e : Outside) → e.wrote ≡ true → next_of pending st out e ≡ over
-      → Played pending st [] (shown (feedOf pending st out) ++ last_of pending st out)
+      → Played pending st [] (shown (feed_of pending st out) ++ last_of pending st out)

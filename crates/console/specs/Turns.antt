@@ -2,7 +2,7 @@
 use Rattle.std.specs.Prelude.{ℕ, ◌-◌, ◌≤◌, ◌≡◌, Bool, true, false, List, [], ◌∷◌, ◌++◌, length, take, drop}
 use Rattle.paper.specs.Choice.{pick}
 use Rattle.steps.specs.Steps.{State, held}
-use Rattle.session.specs.Runs.{Far, feedOf, endText}
+use Rattle.session.specs.Runs.{Far, feed_of, end_text}
 use Rattle.session.specs.Played.{left}
 use Rattle.console.specs.declared.Place.{Place}
 
@@ -27,11 +27,11 @@ refilled f pending e = pick e.more (on (left f pending ++ e.read) f.state) over
 
 -- A turn calls feed and writes what it has put; the run is over where that could not be written, and where feed stops. Where feed waits, the
 -- turn reads. Else the buffer was full, and the run goes on with what is left.
-abbrev pub nextBy : Far → List ℕ → Outside → Next
-nextBy f pending e = pick e.wrote (pick f.stops over (pick f.waits (refilled f pending e) (on (left f pending) f.state))) over
+abbrev pub next_by : Far → List ℕ → Outside → Next
+next_by f pending e = pick e.wrote (pick f.stops over (pick f.waits (refilled f pending e) (on (left f pending) f.state))) over
 
 unfoldable pub next_of : List ℕ → State → List ℕ → Outside → Next
-next_of pending st out e = nextBy (feedOf pending st out) pending e
+next_of pending st out e = next_by (feed_of pending st out) pending e
 
 -- what a turn answers stands for: its bytes are in the input buffer
 abbrev pub stands_for : Place → List ℕ → Next
@@ -46,4 +46,4 @@ pub record Turned (pending : List ℕ) (st : State) (out : List ℕ) (t : Place)
 
 -- what is printed last, behind what feed has put: nothing where feed stops, else what the end of the input prints
 unfoldable pub last_of : List ℕ → State → List ℕ → List ℕ
-last_of pending st out = let f = feedOf pending st out in pick f.stops [] (endText (left f pending))
+last_of pending st out = let f = feed_of pending st out in pick f.stops [] (end_text (left f pending))

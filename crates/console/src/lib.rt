@@ -6,7 +6,7 @@
 
 ghost use Rattle.std.specs.Prelude.{◌≡◌, ◌+◌, ◌-◌, ◌≤◌, length, take, drop};
 ghost use Rattle.steps.specs.Steps.{held};
-ghost use Rattle.session.specs.Runs.{fed, feedOf};
+ghost use Rattle.session.specs.Runs.{fed, feed_of};
 ghost use Rattle.console.specs.Turns.{between, Turned};
 ghost use Rattle.console.specs.Laws.{Laws};
 
@@ -79,7 +79,7 @@ fn end_run(rest: &[u8]) {
 fn feed_part(input: &[u8], from: usize, end: usize, store: Store, out: &mut [u8]) -> Ran
     requires { (from ≤ end) × (end ≤ length input.now) }
     ensures { (from + result.used ≤ end) × (result.put ≤ length out.old)
-        × (fed (held result.store) result.used result.put result.stops result.waits out.new ≡ feedOf (take (end - from) (drop from input.now)) (held store) out.old) }
+        × (fed (held result.store) result.used result.put result.stops result.waits out.new ≡ feed_of (take (end - from) (drop from input.now)) (held store) out.old) }
 {
     session::feed(&input[from..end], store, out)
 }

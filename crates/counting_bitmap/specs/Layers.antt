@@ -27,14 +27,14 @@ fallen (suc n) w ls c = fallen n w (drop w ls) (shared (take w ls) c)
 -- ---- several sets, merged one after the other
 
 -- the layers at the end
-unfoldable pub mergedAll : ℕ → ℕ → List ℕ → List (List ℕ) → List ℕ
-mergedAll n w ls [] = ls
-mergedAll n w ls (c ∷ cs) = mergedAll n w (merged n w ls c) cs
+unfoldable pub merged_all : ℕ → ℕ → List ℕ → List (List ℕ) → List ℕ
+merged_all n w ls [] = ls
+merged_all n w ls (c ∷ cs) = merged_all n w (merged n w ls c) cs
 
 -- all dropped counts together
-unfoldable pub droppedAll : ℕ → ℕ → List ℕ → List (List ℕ) → ℕ
-droppedAll n w ls [] = 0
-droppedAll n w ls (c ∷ cs) = size (fallen n w ls c) + droppedAll n w (merged n w ls c) cs
+unfoldable pub dropped_all : ℕ → ℕ → List ℕ → List (List ℕ) → ℕ
+dropped_all n w ls [] = 0
+dropped_all n w ls (c ∷ cs) = size (fallen n w ls c) + dropped_all n w (merged n w ls c) cs
 
 -- how many of the sets have id i
 unfoldable pub times : List (List ℕ) → ℕ → ℕ
@@ -52,6 +52,6 @@ pub data Sized (w : ℕ) : List (List ℕ) → Type 0 where
   more : {c : List ℕ} {cs : List (List ℕ)} → length c ≡ w → Sized w cs → Sized w (c ∷ cs)
 
 -- the counts of the first n layers
-unfoldable pub countsOf : ℕ → ℕ → List ℕ → List ℕ
-countsOf zero w ls = []
-countsOf (suc n) w ls = size (take w ls) ∷ countsOf n w (drop w ls)
+unfoldable pub counts_of : ℕ → ℕ → List ℕ → List ℕ
+counts_of zero w ls = []
+counts_of (suc n) w ls = size (take w ls) ∷ counts_of n w (drop w ls)

@@ -1,14 +1,14 @@
 // The work on layers, for the crates above: n layers of w words each, one after the other, and a set of w words.
 ghost use Rattle.std.specs.Prelude.{◌≡◌, ◌++◌, ◌*◌, ◌-◌, ◌≤◌, length};
-ghost use Rattle.counting_bitmap.specs.Layers.{Carried, merged, fallen, countsOf, empty};
+ghost use Rattle.counting_bitmap.specs.Layers.{Carried, merged, fallen, counts_of, empty};
 ghost use Rattle.counting_bitmap.specs.TopLayer.{top_of, part_of};
-ghost use Rattle.counting_bitmap.specs.Answers.{layersOk};
+ghost use Rattle.counting_bitmap.specs.Answers.{layers_ok};
 
 use super::Top;
 
 // Whether the capacity is good and there are 1 to 32 layers.
 pub fn layers_ok(cap: usize, n: usize) -> bool
-    ensures { result ≡ layersOk cap n }
+    ensures { result ≡ layers_ok cap n }
 {
     if !paper::capacity_ok(cap) {
         return false;
@@ -58,7 +58,7 @@ pub fn merge(layers: &mut [u64], n: usize, w: usize, cur: &mut [u64])
 // The number of ids of each layer, in the first n places.
 pub fn cardinalities(layers: &[u64], n: usize, w: usize) -> [u32; 32]
     requires { (length layers.now ≡ n * w) × (n ≤ 32) × (w ≤ 1024) }
-    ensures { result ≡ countsOf n w layers.now ++ empty (32 - n) }
+    ensures { result ≡ counts_of n w layers.now ++ empty (32 - n) }
 {
     let mut counts = [0u32; 32];
     let mut i = 0;

@@ -11,22 +11,22 @@ use lib.ListN.{length, drop, replicate}
 use lib.Ieee.{Float}
 use Rattle.paper.specs.Choice.{◌and◌}
 use Rattle.paper.proofs.Choice.{and_l, and_r, refuse-ok, refuse-rest}
-use Rattle.vector.specs.Finite.{allFinite}
-use Rattle.faces.specs.Slots.{facesOf, after_of, picks_of, HasFace}
-use Rattle.faces.specs.Answer.{faceNumber, FaceIs, spilling, spillOf}
+use Rattle.vector.specs.Finite.{all_finite}
+use Rattle.faces.specs.Slots.{faces_of, after_of, picks_of, HasFace}
+use Rattle.faces.specs.Answer.{face_number, FaceIs, spilling, spill_of}
 use Rattle.faces.specs.declared.FaceAnswer.{FaceAnswer}
 use Rattle.faces.specs.declared.FaceAnswer.TheVariants.{Face, Refused}
 
 -- a projection that is not refused has a face
-pub has-face : (w : List Float) → faceNumber w ≡ 0 → HasFace w
-unfolding faceNumber
+pub has-face : (w : List Float) → face_number w ≡ 0 → HasFace w
+unfolding face_number
 has-face w h =
     let s = refuse-ok (leb 1 (length w) and leb (length w) 1024) 1 _ (λ e. omega arith) h in
     let r = refuse-rest (leb 1 (length w) and leb (length w) 1024) 1 _ (λ e. omega arith) h in
     record {
       some = leb-true _ _ (and_l (leb 1 (length w)) _ s);
       few = leb-true _ _ (and_r (leb 1 (length w)) _ s);
-      finite = refuse-ok (allFinite w) 7 0 (λ e. omega arith) r;
+      finite = refuse-ok (all_finite w) 7 0 (λ e. omega arith) r;
     }
 
 module _ (num n : ℕ) (f g : ℤ) (e : n ≡ num) where
@@ -41,8 +41,8 @@ module _ (num n : ℕ) (f g : ℤ) (e : n ≡ num) where
       record { refusal = e; face = rw q; case = rw q (ap Refused e) }
 
 -- two answers to the same are equal
-pub one_answer : (r s : FaceAnswer) (num : ℕ) (f : ℤ) → FaceIs r num f → FaceIs s num f → r ≡ s
-one_answer r s num f p q = p.case ∙ sym q.case
+pub one-answer : (r s : FaceAnswer) (num : ℕ) (f : ℤ) → FaceIs r num f → FaceIs s num f → r ≡ s
+one-answer r s num f p q = p.case ∙ sym q.case
 
 drop-zeros : (n m : ℕ) (z : ℤ) → drop n (replicate m z) ≡ replicate (m - n) z
 drop-zeros zero m z = ap (λ (k : ℕ). replicate k z) (sym (sub-zero m))
@@ -56,10 +56,10 @@ drop-zeros (suc n) (suc m) z = drop-zeros n m z ∙ ap (λ (k : ℕ). replicate 
     less n m = omega arith
 
 module _ (spill : ℕ) (w : List Float) where
-  pub spill-refused : (num : ℕ) → num ≡ faceNumber w → (num ≡ 0 → ⊥) → spilling (record { refusal = num; count = 0; faces = replicate 1024 (pos 0) }) w ≡ spillOf spill w
-  unfolding spillOf
+  pub spill-refused : (num : ℕ) → num ≡ face_number w → (num ≡ 0 → ⊥) → spilling (record { refusal = num; count = 0; faces = replicate 1024 (pos 0) }) w ≡ spill_of spill w
+  unfolding spill_of
   spill-refused num e h = rw (← e, ne_eqb num 0 h)
 
-  pub spill-done : (n : ℕ) (v : List Float) (out : List ℤ) → faceNumber w ≡ 0 → n ≡ picks_of (length w) spill → v ≡ after_of n w → out ≡ facesOf n w ++ drop n (replicate 1024 (pos 0)) → spilling (record { refusal = 0; count = n; faces = out }) v ≡ spillOf spill w
-  unfolding spillOf
-  spill-done n v out z e p q = rw (eq-eqb (faceNumber w) 0 z, ← e, p, q, drop-zeros n 1024 (pos 0))
+  pub spill-done : (n : ℕ) (v : List Float) (out : List ℤ) → face_number w ≡ 0 → n ≡ picks_of (length w) spill → v ≡ after_of n w → out ≡ faces_of n w ++ drop n (replicate 1024 (pos 0)) → spilling (record { refusal = 0; count = n; faces = out }) v ≡ spill_of spill w
+  unfolding spill_of
+  spill-done n v out z e p q = rw (eq-eqb (face_number w) 0 z, ← e, p, q, drop-zeros n 1024 (pos 0))

@@ -15,12 +15,12 @@ use lib.Ieee.{Float, nan, binary32, fits}
 use Rattle.paper.specs.Choice.{pick}
 use Rattle.vector.specs.Finite.{is_finite}
 use Rattle.vector.proofs.Vectors.{every-all, every_some}
-use Rattle.faces.specs.Best.{beats, firstFrom, unbeaten, bestOf, First}
+use Rattle.faces.specs.Best.{beats, first_from, unbeaten, best_of, First}
 use Rattle.faces.proofs.Rank.{rank, beats-is}
 
 module _ (p : Float → Bool) where
-  first-is : (xs : List Float) (i b : ℕ) → b < length xs → p (get_or xs b nan) ≡ true → ((k : ℕ) → k < b → p (get_or xs k nan) ≡ false) → firstFrom p i xs ≡ i + b
-  unfolding firstFrom
+  first-is : (xs : List Float) (i b : ℕ) → b < length xs → p (get_or xs b nan) ≡ true → ((k : ℕ) → k < b → p (get_or xs k nan) ≡ false) → first_from p i xs ≡ i + b
+  unfolding first_from
   first-is [] i b h t f = absurd (not-suc-le-zero h)
   first-is (x ∷ xs) i zero h t f = rw t (sym (add-zero i))
   first-is (x ∷ xs) i (suc b) h t f =
@@ -31,25 +31,25 @@ module _ (p : Float → Bool) where
       up i b = omega arith
 
   -- an index of the list, whatever p says
-  first-low : (xs : List Float) (i : ℕ) → 0 < i + length xs → firstFrom p i xs < i + length xs
-  unfolding firstFrom
+  first-low : (xs : List Float) (i : ℕ) → 0 < i + length xs → first_from p i xs < i + length xs
+  unfolding first_from
   first-low [] i h = h
-  first-low (x ∷ xs) i h = go (p x) (firstFrom p (suc i) xs) (first-low xs (suc i) (omega arith))
+  first-low (x ∷ xs) i h = go (p x) (first_from p (suc i) xs) (first-low xs (suc i) (omega arith))
     where
       go : (t : Bool) (r : ℕ) → r < suc i + length xs → pick t i r < i + suc (length xs)
       go true r l = omega arith
       go false r l = omega arith
 
-pub best-low : (xs : List Float) → 1 ≤ length xs → bestOf xs < length xs
-unfolding bestOf
+pub best-low : (xs : List Float) → 1 ≤ length xs → best_of xs < length xs
+unfolding best_of
 best-low xs h = rw zero-add at (first-low (unbeaten xs) xs 0 (omega arith))
 
 module _ (xs : List Float) (F : (k : ℕ) → k < length xs → T (is_finite (get_or xs k nan))) (H : (k : ℕ) → T (fits binary32 (get_or xs k nan))) where
   beats-at : (j k : ℕ) → j < length xs → k < length xs → beats (get_or xs j nan) (get_or xs k nan) ≡ ltb (rank (get_or xs k nan)) (rank (get_or xs j nan))
   beats-at j k hj hk = beats-is (get_or xs j nan) (get_or xs k nan) (F j hj) (F k hk) (H j) (H k)
 
-  pub best-is : (b : ℕ) → b < length xs → ((k : ℕ) → k < length xs → rank (get_or xs k nan) ≤ rank (get_or xs b nan)) → ((k : ℕ) → k < b → rank (get_or xs k nan) < rank (get_or xs b nan)) → bestOf xs ≡ b
-  unfolding bestOf
+  pub best-is : (b : ℕ) → b < length xs → ((k : ℕ) → k < length xs → rank (get_or xs k nan) ≤ rank (get_or xs b nan)) → ((k : ℕ) → k < b → rank (get_or xs k nan) < rank (get_or xs b nan)) → best_of xs ≡ b
+  unfolding best_of
   best-is b hb top first =
       first-is (unbeaten xs) xs 0 b hb
       (every-all (λ (y : Float). not (beats y (get_or xs b nan))) xs (λ k hk. ap not (beats-at k b hk hb ∙ le-ltb _ _ (top k hk))))
@@ -98,12 +98,12 @@ module _ (xs : List Float) (F : (k : ℕ) → k < length xs → T (is_finite (ge
     first = λ k l. beats-at xs F H b k B.0 (lt_trans l B.0) ∙ lt-ltb _ _ (B.3 k l);
   }
 
-  best-first-at : (n : ℕ) → suc n ≡ length xs → First xs (bestOf xs)
+  best-first-at : (n : ℕ) → suc n ≡ length xs → First xs (best_of xs)
   best-first-at n e =
       let w = walk n (omega arith) in
       let B : Best xs w.0 (length xs) = subst (Best xs w.0) e w.1 in
       subst (First xs) (sym (best-is xs F H w.0 B.0 B.2 B.3)) (first_of w.0 B)
 
-pub best-first : (xs : List Float) → 1 ≤ length xs → ((k : ℕ) → k < length xs → T (is_finite (get_or xs k nan))) → ((k : ℕ) → T (fits binary32 (get_or xs k nan))) → First xs (bestOf xs)
+pub best-first : (xs : List Float) → 1 ≤ length xs → ((k : ℕ) → k < length xs → T (is_finite (get_or xs k nan))) → ((k : ℕ) → T (fits binary32 (get_or xs k nan))) → First xs (best_of xs)
 best-first [] h F H = absurd (not-suc-le-zero h)
 best-first (x ∷ xs) h F H = best-first-at (x ∷ xs) F H (length xs) refl

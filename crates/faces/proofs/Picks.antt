@@ -9,21 +9,21 @@ use lib.ListN.{length, get_or, set, take, drop, take-append-drop}
 use lib.Seq.{take-suc-set, drop-set-lt, drop-drop}
 use lib.Ieee.{Float, nan}
 use Rattle.vector.specs.Fold.{zero32}
-use Rattle.faces.specs.Best.{positive, bestOf}
-use Rattle.faces.specs.Slots.{faceFor, slotFor, faceOf, slot_of, pickedOf, facesOf, after_of}
+use Rattle.faces.specs.Best.{positive, best_of}
+use Rattle.faces.specs.Slots.{face_for, slot_for, face_of, slot_of, picked_of, faces_of, after_of}
 use Rattle.faces.proofs.Slots.{slot_is}
 
 -- at the best index: the face, the slot, and what a pick leaves
-module _ (w : List Float) (b : ℕ) (B : b ≡ bestOf w) where
-  pub face-at : (f : ℤ) → f ≡ faceFor (positive (get_or w b nan)) b → f ≡ faceOf w
-  unfolding faceOf
+module _ (w : List Float) (b : ℕ) (B : b ≡ best_of w) where
+  pub face-at : (f : ℤ) → f ≡ face_for (positive (get_or w b nan)) b → f ≡ face_of w
+  unfolding face_of
   face-at f e = rw B at e
 
-  pub slot_at : (s : ℕ) → s ≡ slotFor (length w) (positive (get_or w b nan)) b → s ≡ slot_of w
+  pub slot_at : (s : ℕ) → s ≡ slot_for (length w) (positive (get_or w b nan)) b → s ≡ slot_of w
   slot_at s e = rw B at e ∙ sym (slot_is w)
 
-  pub picked-at : set w b zero32 ≡ pickedOf w
-  unfolding pickedOf
+  pub picked-at : set w b zero32 ≡ picked_of w
+  unfolding picked_of
   picked-at = rw B
 
 left-suc : (d k : ℕ) → k < d → d - k ≡ suc (d - (k + 1))
@@ -33,15 +33,15 @@ left-none : (d k : ℕ) → d ≤ k → d - k ≡ 0
 left-none d k h = omega arith
 
 -- one pick more, of n: from w to v
-module _ (n k : ℕ) (h : k < n) (w v : List Float) (P : v ≡ pickedOf w) where
+module _ (n k : ℕ) (h : k < n) (w v : List Float) (P : v ≡ picked_of w) where
   pub after-step : after_of (n - (k + 1)) v ≡ after_of (n - k) w
   unfolding after_of
   after-step = rw (left-suc n k h, P)
 
-  pub faces-step : (out : List ℤ) (f : ℤ) → k < length out → f ≡ faceOf w → take (k + 1) (set out k f) ++ facesOf (n - (k + 1)) v ≡ take k out ++ facesOf (n - k) w
-  unfolding facesOf
+  pub faces-step : (out : List ℤ) (f : ℤ) → k < length out → f ≡ face_of w → take (k + 1) (set out k f) ++ faces_of (n - (k + 1)) v ≡ take k out ++ faces_of (n - k) w
+  unfolding faces_of
   faces-step out f l e =
-      ap (λ (z : ℕ). take z (set out k f) ++ facesOf (n - (k + 1)) v) (add-one k)
+      ap (λ (z : ℕ). take z (set out k f) ++ faces_of (n - (k + 1)) v) (add-one k)
       ∙ rw (take-suc-set out k f l, append_assoc, left-suc n k h, e, P)
 
 module _ (n k : ℕ) (h : n ≤ k) (w : List Float) where
@@ -49,8 +49,8 @@ module _ (n k : ℕ) (h : n ≤ k) (w : List Float) where
   unfolding after_of
   after-end = rw (left-none n k h)
 
-  pub faces-end : (out : List ℤ) → take k out ++ facesOf (n - k) w ≡ take k out
-  unfolding facesOf
+  pub faces-end : (out : List ℤ) → take k out ++ faces_of (n - k) w ≡ take k out
+  unfolding faces_of
   faces-end out = rw (left-none n k h) (append-nil (take k out))
 
 -- the places after the k-th are as they were

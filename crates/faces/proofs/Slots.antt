@@ -11,87 +11,87 @@ use lib.ListN.{length, get_or, take, length-set}
 use lib.Ieee.{Float, nan, of_bits}
 use Rattle.paper.specs.Choice.{pick}
 use Rattle.vector.specs.Fold.{zero32}
-use Rattle.vector.specs.Finite.{is_finite, allFinite}
+use Rattle.vector.specs.Finite.{is_finite, all_finite}
 use Rattle.vector.proofs.Vectors.{every_set}
-use Rattle.faces.specs.Best.{positive, bestOf}
-use Rattle.faces.specs.Slots.{faceFor, faceOf, slotOfFace, slotFor, slot_of, pickedOf, slots, facesOf, after_of, picks_of, HasFace}
+use Rattle.faces.specs.Best.{positive, best_of}
+use Rattle.faces.specs.Slots.{face_for, face_of, slot_of_face, slot_for, slot_of, picked_of, slots, faces_of, after_of, picks_of, HasFace}
 use Rattle.faces.proofs.First.{best-low}
 
 -- ---- a pick
 
-pub length-picked : (w : List Float) → length (pickedOf w) ≡ length w
-unfolding pickedOf
+pub length-picked : (w : List Float) → length (picked_of w) ≡ length w
+unfolding picked_of
 length-picked w = simp length-set
 
 zero-finite : is_finite zero32 ≡ true
 unfolding of_bits
 zero-finite = refl
 
-pub finite-picked : (w : List Float) → allFinite w ≡ true → allFinite (pickedOf w) ≡ true
-unfolding pickedOf
-finite-picked w h = every_set is_finite w (bestOf w) zero32 zero-finite h
+pub finite-picked : (w : List Float) → all_finite w ≡ true → all_finite (picked_of w) ≡ true
+unfolding picked_of
+finite-picked w h = every_set is_finite w (best_of w) zero32 zero-finite h
 
 -- what a pick leaves has a face again
-pub picked-face : (w : List Float) → HasFace w → HasFace (pickedOf w)
+pub picked-face : (w : List Float) → HasFace w → HasFace (picked_of w)
 picked-face w h =
     record { some = rw (length-picked w) h.some; few = rw (length-picked w) h.few; finite = finite-picked w h.finite }
 
 -- ---- faces and slots
 
 -- the slot of a face, by index and sign
-pub face-for-slot : (d : ℕ) (up : Bool) (i : ℕ) → slotOfFace d (faceFor up i) ≡ slotFor d up i
+pub face-for-slot : (d : ℕ) (up : Bool) (i : ℕ) → slot_of_face d (face_for up i) ≡ slot_for d up i
 face-for-slot d true i = omega arith
 face-for-slot d false i = omega arith
 
 -- the slot is that of the face
-pub face-slot : (w : List Float) → slot_of w ≡ slotOfFace (length w) (faceOf w)
+pub face-slot : (w : List Float) → slot_of w ≡ slot_of_face (length w) (face_of w)
 unfolding slot_of
 face-slot w = refl
 
-pub slot_is : (w : List Float) → slot_of w ≡ slotFor (length w) (positive (get_or w (bestOf w) nan)) (bestOf w)
-unfolding slot_of faceOf
-slot_is w = face-for-slot (length w) (positive (get_or w (bestOf w) nan)) (bestOf w)
+pub slot_is : (w : List Float) → slot_of w ≡ slot_for (length w) (positive (get_or w (best_of w) nan)) (best_of w)
+unfolding slot_of face_of
+slot_is w = face-for-slot (length w) (positive (get_or w (best_of w) nan)) (best_of w)
 
 -- an index's slot is below 2d
-pub slot-for-low : (d : ℕ) (up : Bool) (i : ℕ) → i < d → slotFor d up i < 2 * d
+pub slot-for-low : (d : ℕ) (up : Bool) (i : ℕ) → i < d → slot_for d up i < 2 * d
 slot-for-low d true i h = omega arith
 slot-for-low d false i h = omega arith
 
 -- a slot is below 2d
 pub slot-low : (w : List Float) → 1 ≤ length w → slot_of w < 2 * length w
-slot-low w h = rw (slot_is w) (slot-for-low (length w) (positive (get_or w (bestOf w) nan)) (bestOf w) (best-low w h))
+slot-low w h = rw (slot_is w) (slot-for-low (length w) (positive (get_or w (best_of w) nan)) (best_of w) (best-low w h))
 
 -- the slots of several picks are those of their faces
-pub faces-slots : (n : ℕ) (w : List Float) → slots n w ≡ map (slotOfFace (length w)) (facesOf n w)
-unfolding slots facesOf
+pub faces-slots : (n : ℕ) (w : List Float) → slots n w ≡ map (slot_of_face (length w)) (faces_of n w)
+unfolding slots faces_of
 faces-slots zero w = refl
 faces-slots (suc n) w =
-    ap (◌∷◌ (slot_of w)) (faces-slots n (pickedOf w) ∙ ap (λ (d : ℕ). map (slotOfFace d) (facesOf n (pickedOf w))) (length-picked w))
-    ∙ ap (λ (s : ℕ). s ∷ map (slotOfFace (length w)) (facesOf n (pickedOf w))) (face-slot w)
+    ap (◌∷◌ (slot_of w)) (faces-slots n (picked_of w) ∙ ap (λ (d : ℕ). map (slot_of_face d) (faces_of n (picked_of w))) (length-picked w))
+    ∙ ap (λ (s : ℕ). s ∷ map (slot_of_face (length w)) (faces_of n (picked_of w))) (face-slot w)
 
 -- ---- several picks
 
 pub length-slots : (n : ℕ) (w : List Float) → length (slots n w) ≡ n
 unfolding slots
 length-slots zero w = refl
-length-slots (suc n) w = ap suc (length-slots n (pickedOf w))
+length-slots (suc n) w = ap suc (length-slots n (picked_of w))
 
-pub length-faces : (n : ℕ) (w : List Float) → length (facesOf n w) ≡ n
-unfolding facesOf
+pub length-faces : (n : ℕ) (w : List Float) → length (faces_of n w) ≡ n
+unfolding faces_of
 length-faces zero w = refl
-length-faces (suc n) w = ap suc (length-faces n (pickedOf w))
+length-faces (suc n) w = ap suc (length-faces n (picked_of w))
 
 pub length-after : (n : ℕ) (w : List Float) → length (after_of n w) ≡ length w
 unfolding after_of
 length-after zero w = refl
-length-after (suc n) w = length-after n (pickedOf w) ∙ length-picked w
+length-after (suc n) w = length-after n (picked_of w) ∙ length-picked w
 
 -- fewer picks begin more of them
 pub slots-begin : (m n : ℕ) (w : List Float) → m ≤ n → take m (slots n w) ≡ slots m w
 unfolding slots
 slots-begin zero n w h = refl
 slots-begin (suc m) zero w h = absurd (not-suc-le-zero h)
-slots-begin (suc m) (suc n) w h = ap (◌∷◌ (slot_of w)) (slots-begin m n (pickedOf w) (le_of_suc-le-suc h))
+slots-begin (suc m) (suc n) w h = ap (◌∷◌ (slot_of w)) (slots-begin m n (picked_of w) (le_of_suc-le-suc h))
 
 -- a larger spill picks no less
 pub picks_more : (d s t : ℕ) → s ≤ t → picks_of d s ≤ picks_of d t

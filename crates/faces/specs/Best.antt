@@ -24,13 +24,13 @@ abbrev pub unbeaten : List Float → Float → Bool
 unbeaten xs x = every (λ (y : Float). not (beats y x)) xs
 
 -- the first index, counted from i, at which p holds; 0 where there is none. (A finite projection has one: law `best-first`.)
-unfoldable pub firstFrom : (Float → Bool) → ℕ → List Float → ℕ
-firstFrom p i [] = zero
-firstFrom p i (x ∷ xs) = pick (p x) i (firstFrom p (suc i) xs)
+unfoldable pub first_from : (Float → Bool) → ℕ → List Float → ℕ
+first_from p i [] = zero
+first_from p i (x ∷ xs) = pick (p x) i (first_from p (suc i) xs)
 
 -- the first entry that none beats
-unfoldable pub bestOf : List Float → ℕ
-bestOf xs = firstFrom (unbeaten xs) zero xs
+unfoldable pub best_of : List Float → ℕ
+best_of xs = first_from (unbeaten xs) zero xs
 
 -- b is the index of the entry that gives the face: one of the list's, whose entry none beats, while it beats each entry before it
 pub record First (xs : List Float) (b : ℕ) : Type 0 where

@@ -3,22 +3,22 @@ use Rattle.std.specs.Prelude.{◌≡◌, List, map, ℕ, ◌*◌, ◌≤◌, ◌
 use Rattle.std.specs.Float.{nan, binary32}
 use Rattle.std.specs.Float.Ieee.{fits}
 use Rattle.faces.specs.declared.FaceAnswer.{FaceAnswer}
-use Rattle.faces.specs.Best.{bestOf, First}
-use Rattle.faces.specs.Slots.{faceOf, slotOfFace, slot_of, pickedOf, slots, facesOf, picks_of, HasFace}
+use Rattle.faces.specs.Best.{best_of, First}
+use Rattle.faces.specs.Slots.{face_of, slot_of_face, slot_of, picked_of, slots, faces_of, picks_of, HasFace}
 use Rattle.faces.specs.Answer.{FaceIs}
 
 pub record Laws : Type 0 where
   -- two answers to the same call are equal
-  pub one_answer : (r s : FaceAnswer) (num : ℕ) (f : ℤ) → FaceIs r num f → FaceIs s num f → r ≡ s
-  -- a projection that is not refused, whose entries are floats of binary32, has an entry that none beats: `bestOf` finds the first of them,
+  pub one-answer : (r s : FaceAnswer) (num : ℕ) (f : ℤ) → FaceIs r num f → FaceIs s num f → r ≡ s
+  -- a projection that is not refused, whose entries are floats of binary32, has an entry that none beats: `best_of` finds the first of them,
   -- and the 0 that its definition falls back to is never taken for want of one
-  pub best-first : (w : List Float) → HasFace w → ((k : ℕ) → T (fits binary32 (get_or w k nan))) → First w (bestOf w)
+  pub best-first : (w : List Float) → HasFace w → ((k : ℕ) → T (fits binary32 (get_or w k nan))) → First w (best_of w)
   -- what a pick leaves has a face again, so that each pick of a spill finds one
-  pub picked-face : (w : List Float) → HasFace w → HasFace (pickedOf w)
+  pub picked-face : (w : List Float) → HasFace w → HasFace (picked_of w)
   -- a slot is below 2d
   pub slot-low : (w : List Float) → 1 ≤ length w → slot_of w < 2 * length w
   -- the slot is that of the face, and the slots of several picks are those of their faces
-  pub face-slot : (w : List Float) → slot_of w ≡ slotOfFace (length w) (faceOf w)
-  pub faces-slots : (n : ℕ) (w : List Float) → slots n w ≡ map (slotOfFace (length w)) (facesOf n w)
+  pub face-slot : (w : List Float) → slot_of w ≡ slot_of_face (length w) (face_of w)
+  pub faces-slots : (n : ℕ) (w : List Float) → slots n w ≡ map (slot_of_face (length w)) (faces_of n w)
   -- the picks of a smaller spill begin those of a larger one, the clamp at d - 1 included
   pub picks-begin : (d s t : ℕ) (w : List Float) → s ≤ t → take (picks_of d s) (slots (picks_of d t) w) ≡ slots (picks_of d s) w

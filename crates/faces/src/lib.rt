@@ -3,8 +3,8 @@
 #![tactic(auto)]
 
 ghost use Rattle.std.specs.Prelude.{◌≡◌};
-ghost use Rattle.faces.specs.Slots.{faceOf, picks_of};
-ghost use Rattle.faces.specs.Answer.{faceNumber, FaceIs, spilling, spillOf};
+ghost use Rattle.faces.specs.Slots.{face_of, picks_of};
+ghost use Rattle.faces.specs.Answer.{face_number, FaceIs, spilling, spill_of};
 ghost use Rattle.faces.specs.Laws.{Laws};
 
 pub mod inner;
@@ -26,7 +26,7 @@ pub struct Spilled {
 
 // 0 for a projection that has a face: 1 unless there are 1 to 1,024 entries, then 7 unless each of them is finite.
 fn face_refusal(projection: &[f32]) -> u32
-    ensures { result ≡ faceNumber projection.now }
+    ensures { result ≡ face_number projection.now }
 {
     let d = projection.len();
     if d < 1 {
@@ -44,7 +44,7 @@ fn face_refusal(projection: &[f32]) -> u32
 // The face of a projection: index + 1 of its greatest entry, or -(index + 1) where that entry is not above 0. Of equal ones a positive comes before a
 // negative, then the first index. Refuses 1 unless there are 1 to 1,024 entries, then 7 unless each of them is finite.
 pub fn find_face_idx(projection: &[f32]) -> FaceAnswer
-    ensures { FaceIs result (faceNumber projection.now) (faceOf projection.now) }
+    ensures { FaceIs result (face_number projection.now) (face_of projection.now) }
 {
     let refusal = face_refusal(projection);
     if refusal != 0 {
@@ -66,7 +66,7 @@ pub fn picks_for(d: usize, spill: usize) -> usize
 // Picks spill + 1 faces, one after the other, and sets each picked entry to +0.0 (spill at or above d counts as d - 1). Refuses 1 and 7 as
 // find_face_idx does; a refusal leaves the projection as it was and answers no face.
 pub fn spill_faces(projection: &mut [f32], spill: usize) -> Spilled
-    ensures { spilling result projection.new ≡ spillOf spill projection.old }
+    ensures { spilling result projection.new ≡ spill_of spill projection.old }
 {
     let refusal = face_refusal(projection);
     if refusal != 0 {

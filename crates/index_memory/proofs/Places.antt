@@ -7,8 +7,8 @@ use native.Mathlib.Nat.{suc-mul, mul-le-mul_right, mul_assoc}
 use lib.Arith.{digits_lt}
 use lib.ListN.{length, take, drop, length-drop}
 use lib.Seq.{length-take-le}
-use Rattle.paper.specs.Geometry.{setWords, faceWords}
-use Rattle.index_memory.specs.Memory.{faceBit}
+use Rattle.paper.specs.Geometry.{set_words, face_words}
+use Rattle.index_memory.specs.Memory.{face_bit}
 
 -- id's place is within C places of s elements
 pub place : (id cap s : ℕ) → id < cap → id * s + s ≤ cap * s
@@ -31,26 +31,26 @@ part-is b s p xs e =
 
 -- ---- the bit of an id in a face set
 
-words-bits : (cap : ℕ) → cap % 64 ≡ 0 → cap ≡ setWords cap * 64
+words-bits : (cap : ℕ) → cap % 64 ≡ 0 → cap ≡ set_words cap * 64
 words-bits cap e = omega arith
 
 -- a set's bits are its words' bits
-bits_of : (x cap : ℕ) → cap % 64 ≡ 0 → x * cap ≡ x * setWords cap * 64
-bits_of x cap e = ap (λ (k : ℕ). x * k) (words-bits cap e) ∙ sym (mul_assoc x (setWords cap) 64)
+bits_of : (x cap : ℕ) → cap % 64 ≡ 0 → x * cap ≡ x * set_words cap * 64
+bits_of x cap e = ap (λ (k : ℕ). x * k) (words-bits cap e) ∙ sym (mul_assoc x (set_words cap) 64)
 
 -- it stands in word (b * 2d + slot) * W + i / 64, at bit i % 64
-pub face-bit-word : (d cap b slot i : ℕ) → cap % 64 ≡ 0 → faceBit d cap b slot i / 64 ≡ (b * (2 * d) + slot) * setWords cap + i / 64
+pub face-bit-word : (d cap b slot i : ℕ) → cap % 64 ≡ 0 → face_bit d cap b slot i / 64 ≡ (b * (2 * d) + slot) * set_words cap + i / 64
 face-bit-word d cap b slot i e = omega (arith, bits_of (b * (2 * d) + slot) cap e)
 
-pub face-bit-digit : (d cap b slot i : ℕ) → cap % 64 ≡ 0 → faceBit d cap b slot i % 64 ≡ i % 64
+pub face-bit-digit : (d cap b slot i : ℕ) → cap % 64 ≡ 0 → face_bit d cap b slot i % 64 ≡ i % 64
 face-bit-digit d cap b slot i e = omega (arith, bits_of (b * (2 * d) + slot) cap e)
 
 -- it is one of the face sets' bits
-pub face-bit-low : (d n cap b slot i : ℕ) → cap % 64 ≡ 0 → b < n → slot < 2 * d → i < cap → faceBit d cap b slot i < faceWords d n cap * 64
+pub face-bit-low : (d n cap b slot i : ℕ) → cap % 64 ≡ 0 → b < n → slot < 2 * d → i < cap → face_bit d cap b slot i < face_words d n cap * 64
 face-bit-low d n cap b slot i e h s l =
-    let t : faceBit d cap b slot i < n * (2 * d) * cap = digits_lt (digits_lt h s) l in
+    let t : face_bit d cap b slot i < n * (2 * d) * cap = digits_lt (digits_lt h s) l in
     omega (arith, t, bits_of (n * (2 * d)) cap e)
 
 -- an id's mark is one of the marks' bits
-pub mark-low : (cap i : ℕ) → cap % 64 ≡ 0 → i < cap → i < setWords cap * 64
+pub mark-low : (cap i : ℕ) → cap % 64 ≡ 0 → i < cap → i < set_words cap * 64
 mark-low cap i e h = omega arith

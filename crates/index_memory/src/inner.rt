@@ -1,12 +1,12 @@
 // For the crates above: the tests of lengths, each of which asks only the bounds that keep its products small, and clearing.
 ghost use Rattle.std.specs.Prelude.{◌≡◌, ◌≤◌, length};
 ghost use Rattle.bitmaps.specs.Words.{empty};
-ghost use Rattle.index_memory.specs.Memory.{storeOk, ownOk, basesOk, floatZeros};
+ghost use Rattle.index_memory.specs.Memory.{store_ok, own_ok, bases_ok, float_zeros};
 
 // Whether marks and stored vectors have their lengths.
 pub fn store_lengths_ok(d: usize, cap: usize, mode: usize, marks: usize, vectors: usize) -> bool
     requires { (d ≤ 1024) × (cap ≤ 65536) }
-    ensures { result ≡ storeOk d cap mode marks vectors }
+    ensures { result ≡ store_ok d cap mode marks vectors }
 {
     if marks != cap / 64 {
         return false;
@@ -25,7 +25,7 @@ pub fn own_lengths_ok(
     vectors: usize,
 ) -> bool
     requires { (d ≤ 1024) × (n ≤ 32) × (cap ≤ 65536) }
-    ensures { result ≡ ownOk d n cap mode faces marks vectors }
+    ensures { result ≡ own_ok d n cap mode faces marks vectors }
 {
     if faces != paper::inner::face_words(d, n, cap) {
         return false;
@@ -36,14 +36,14 @@ pub fn own_lengths_ok(
 // Whether the bases have their length.
 pub fn bases_length_ok(d: usize, n: usize, bases: usize) -> bool
     requires { (d ≤ 1024) × (n ≤ 32) }
-    ensures { result ≡ basesOk d n bases }
+    ensures { result ≡ bases_ok d n bases }
 {
     bases == paper::inner::bases_len(d, n)
 }
 
 // Makes every float +0.0.
 pub fn clear_floats(work: &mut [f32])
-    ensures { work.new ≡ floatZeros (length work.old) }
+    ensures { work.new ≡ float_zeros (length work.old) }
 {
     let mut i = 0;
     while i < work.len() {

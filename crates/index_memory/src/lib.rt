@@ -3,7 +3,7 @@
 
 ghost use Rattle.std.specs.Prelude.{◌≡◌};
 ghost use Rattle.paper.specs.Geometry.{geo};
-ghost use Rattle.index_memory.specs.Memory.{ixOf, ownRefusal, done, emptyOf};
+ghost use Rattle.index_memory.specs.Memory.{ix_of, own_refusal, done, empty_of};
 ghost use Rattle.index_memory.specs.Laws.{Laws};
 
 pub mod inner;
@@ -18,7 +18,7 @@ pub fn own_refusal(
     marks: usize,
     vectors: usize,
 ) -> u32
-    ensures { result ≡ ownRefusal d n cap mode faces marks vectors }
+    ensures { result ≡ own_refusal d n cap mode faces marks vectors }
 {
     if !paper::geometry_ok(d, n, cap, mode) {
         return paper::WRONG_GEOMETRY;
@@ -39,7 +39,7 @@ pub fn new_vector_store(
     cap: usize,
     mode: usize,
 ) -> u32
-    ensures { done result (ixOf faces.new marks.new vectors.new) ≡ emptyOf (geo d n cap mode) (ixOf faces.old marks.old vectors.old) }
+    ensures { done result (ix_of faces.new marks.new vectors.new) ≡ empty_of (geo d n cap mode) (ix_of faces.old marks.old vectors.old) }
 {
     let r = own_refusal(d, n, cap, mode, faces.len(), marks.len(), vectors.len());
     if r != 0 {

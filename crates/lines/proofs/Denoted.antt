@@ -8,8 +8,8 @@ use lib.ListN.{length}
 use lib.Dec.{ltb, eqb}
 use native.Mathlib.Nat.{div-div-eq-div-mul, div-add-mod'}
 use borrow.Author.Tests.{eqb-true, eqb-false, ltb-true, ltb-false, lt-ltb, le-ltb}
-use Rattle.lines.specs.Lines.{trimmed, tenDigits, decimal, glyph, hexadecimal}
-use Rattle.lines.specs.Laws.{digitOf, denoted, NoZeroInFront}
+use Rattle.lines.specs.Lines.{trimmed, ten_digits, decimal, glyph, hexadecimal}
+use Rattle.lines.specs.Laws.{digit_of, denoted, NoZeroInFront}
 
 -- a zero in front adds nothing
 trim-denotes : (base : ℕ) (ds : List ℕ) → denoted base 0 (trimmed ds) ≡ denoted base 0 ds
@@ -35,18 +35,18 @@ trim-plain x (y ∷ ds) = by (eqb x 48) refl (trim-plain y ds)
     by false e less = eqb-false x 48 e
 
 -- one digit more
-decimal_digit : (x : ℕ) → x < 10 → digitOf (48 + x) ≡ x
+decimal_digit : (x : ℕ) → x < 10 → digit_of (48 + x) ≡ x
 decimal_digit x h = rw (lt-ltb (48 + x) 58 (omega arith)) (omega arith)
 
-glyph-digit : (x : ℕ) → x < 16 → digitOf (glyph x) ≡ x
+glyph-digit : (x : ℕ) → x < 16 → digit_of (glyph x) ≡ x
 glyph-digit x h = by (ltb x 10) refl
   where
-    by : (b : Bool) → ltb x 10 ≡ b → digitOf (cond b (48 + x) (55 + x)) ≡ x
+    by : (b : Bool) → ltb x 10 ≡ b → digit_of (cond b (48 + x) (55 + x)) ≡ x
     by true e = decimal_digit x (ltb-true x 10 e)
     by false e = rw (le-ltb (55 + x) 58 (omega (arith, ltb-false x 10 e))) (omega arith)
 
 -- one digit more: what stands before a place, and the digit at it
-up : (base n p c : ℕ) (cs : List ℕ) → digitOf c ≡ n / p % base → denoted base (n / (p * base)) (c ∷ cs) ≡ denoted base (n / p) cs
+up : (base n p c : ℕ) (cs : List ℕ) → digit_of c ≡ n / p % base → denoted base (n / (p * base)) (c ∷ cs) ≡ denoted base (n / p) cs
 unfolding denoted
 up base n p c cs e = ap (λ (b : ℕ). denoted base b cs) (rw (e, ← div-div-eq-div-mul n p base) (div-add-mod' (n / p) base))
 
@@ -57,7 +57,7 @@ sixteen : (n p : ℕ) (cs : List ℕ) → denoted 16 (n / (p * 16)) (glyph (n / 
 sixteen n p cs = up 16 n p _ cs (glyph-digit (n / p % 16) (omega arith))
 
 -- the last digit
-last : (base n c : ℕ) → digitOf c ≡ n % base → denoted base (n / base) (c ∷ []) ≡ n
+last : (base n c : ℕ) → digit_of c ≡ n % base → denoted base (n / base) (c ∷ []) ≡ n
 unfolding denoted
 last base n c e = rw e (div-add-mod' n base)
 
@@ -65,8 +65,8 @@ pub decimal-denotes : (n : ℕ) → n < 10000000000 → denoted 10 0 (decimal n)
 unfolding decimal
 decimal-denotes n h =
     let z : 0 ≡ n / 10000000000 = omega arith in
-    trim-denotes 10 (tenDigits n)
-    ∙ ap (λ (b : ℕ). denoted 10 b (tenDigits n)) z
+    trim-denotes 10 (ten_digits n)
+    ∙ ap (λ (b : ℕ). denoted 10 b (ten_digits n)) z
     ∙ ten n 1000000000 _
     ∙ ten n 100000000 _
     ∙ ten n 10000000 _

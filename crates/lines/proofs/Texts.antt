@@ -12,7 +12,7 @@ use lib.Ieee.{Float, nan}
 use borrow.Author.Tests.{eq-eqb, ne_eqb, lt-ltb, le-ltb}
 use Rattle.lines.specs.declared.Told.{Told}
 use Rattle.lines.specs.declared.Told.TheVariants.{Refused, Geometry, Basis, Added, Found}
-use Rattle.lines.specs.Lines.{Put, told, trimmed, tenDigits, decimal, glyph, hexadecimal, entry, listing}
+use Rattle.lines.specs.Lines.{Put, told, trimmed, ten_digits, decimal, glyph, hexadecimal, entry, listing}
 
 -- ---- stores one after another
 
@@ -66,7 +66,7 @@ trim-length (x ∷ y ∷ ds) = go (eqb x 48) (trim-length (y ∷ ds))
 
 pub decimal-length : (n : ℕ) → length (decimal n) ≤ 10
 unfolding decimal
-decimal-length n = trim-length (tenDigits n)
+decimal-length n = trim-length (ten_digits n)
 
 pub low-glyph : (x : ℕ) → x < 10 → 48 + x ≡ glyph x
 low-glyph x h = rw (lt-ltb x 10 h) refl

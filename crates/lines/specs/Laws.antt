@@ -3,13 +3,13 @@ use Rattle.std.specs.Prelude.{ℕ, ◌+◌, ◌-◌, ◌*◌, ◌<◌, cond, Lis
 use Rattle.lines.specs.Lines.{decimal, hexadecimal}
 
 -- what a digit stands for: `0` to `9`, then `A` to `F`
-abbrev pub digitOf : ℕ → ℕ
-digitOf c = cond (ltb c 58) (c - 48) (c - 55)
+abbrev pub digit_of : ℕ → ℕ
+digit_of c = cond (ltb c 58) (c - 48) (c - 55)
 
 -- the number that digits denote in a base, behind what stands before them
 unfoldable pub denoted : ℕ → ℕ → List ℕ → ℕ
 denoted base before [] = before
-denoted base before (c ∷ cs) = denoted base (before * base + digitOf c) cs
+denoted base before (c ∷ cs) = denoted base (before * base + digit_of c) cs
 
 -- no `0` in front of another digit
 abbrev pub NoZeroInFront : List ℕ → Type 0

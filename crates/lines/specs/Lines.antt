@@ -17,14 +17,14 @@ trimmed [] = []
 trimmed (x ∷ []) = x ∷ []
 trimmed (x ∷ y ∷ ds) = cond (eqb x 48) (trimmed (y ∷ ds)) (x ∷ y ∷ ds)
 
-abbrev pub tenDigits : ℕ → List ℕ
-tenDigits n =
+abbrev pub ten_digits : ℕ → List ℕ
+ten_digits n =
     (48 + n / 1000000000 % 10) ∷ (48 + n / 100000000 % 10) ∷ (48 + n / 10000000 % 10) ∷ (48 + n / 1000000 % 10) ∷ (48 + n / 100000 % 10)
     ∷ (48 + n / 10000 % 10) ∷ (48 + n / 1000 % 10) ∷ (48 + n / 100 % 10) ∷ (48 + n / 10 % 10) ∷ (48 + n % 10) ∷ []
 
 -- a number below 10 ^ 10 in decimal
 unfoldable pub decimal : ℕ → List ℕ
-decimal n = trimmed (tenDigits n)
+decimal n = trimmed (ten_digits n)
 
 -- `0` to `9`, then `A` to `F`
 abbrev pub glyph : ℕ → ℕ
@@ -37,23 +37,23 @@ hexadecimal n =
     ∷ glyph (n / 4096 % 16) ∷ glyph (n / 256 % 16) ∷ glyph (n / 16 % 16) ∷ glyph (n % 16) ∷ []
 
 -- the words, as ASCII
-abbrev pub refusedWord : List ℕ
-refusedWord = 114 ∷ 101 ∷ 102 ∷ 117 ∷ 115 ∷ 101 ∷ 100 ∷ 32 ∷ []
+abbrev pub refused_word : List ℕ
+refused_word = 114 ∷ 101 ∷ 102 ∷ 117 ∷ 115 ∷ 101 ∷ 100 ∷ 32 ∷ []
 
-abbrev pub geometryWord : List ℕ
-geometryWord = 103 ∷ 101 ∷ 111 ∷ 109 ∷ 101 ∷ 116 ∷ 114 ∷ 121 ∷ 32 ∷ []
+abbrev pub geometry_word : List ℕ
+geometry_word = 103 ∷ 101 ∷ 111 ∷ 109 ∷ 101 ∷ 116 ∷ 114 ∷ 121 ∷ 32 ∷ []
 
-abbrev pub basisWord : List ℕ
-basisWord = 98 ∷ 97 ∷ 115 ∷ 105 ∷ 115 ∷ 32 ∷ []
+abbrev pub basis_word : List ℕ
+basis_word = 98 ∷ 97 ∷ 115 ∷ 105 ∷ 115 ∷ 32 ∷ []
 
-abbrev pub addedWord : List ℕ
-addedWord = 97 ∷ 100 ∷ 100 ∷ 101 ∷ 100 ∷ 32 ∷ []
+abbrev pub added_word : List ℕ
+added_word = 97 ∷ 100 ∷ 100 ∷ 101 ∷ 100 ∷ 32 ∷ []
 
-abbrev pub foundWord : List ℕ
-foundWord = 102 ∷ 111 ∷ 117 ∷ 110 ∷ 100 ∷ 32 ∷ []
+abbrev pub found_word : List ℕ
+found_word = 102 ∷ 111 ∷ 117 ∷ 110 ∷ 100 ∷ 32 ∷ []
 
-abbrev pub checkedWord : List ℕ
-checkedWord = 32 ∷ 99 ∷ 104 ∷ 101 ∷ 99 ∷ 107 ∷ 101 ∷ 100 ∷ 32 ∷ []
+abbrev pub checked_word : List ℕ
+checked_word = 32 ∷ 99 ∷ 104 ∷ 101 ∷ 99 ∷ 107 ∷ 101 ∷ 100 ∷ 32 ∷ []
 
 abbrev pub space : List ℕ
 space = 32 ∷ []
@@ -68,11 +68,11 @@ line word n = number word n ++ (10 ∷ [])
 
 -- the first line that a record prints
 unfoldable pub told : Told → List ℕ
-told (Refused n) = line refusedWord n
-told (Geometry d n cap mode) = number geometryWord d ++ number space n ++ number space cap ++ line space mode
-told (Basis b) = line basisWord b
-told (Added id) = line addedWord id
-told (Found len checked) = number foundWord len ++ line checkedWord checked
+told (Refused n) = line refused_word n
+told (Geometry d n cap mode) = number geometry_word d ++ number space n ++ number space cap ++ line space mode
+told (Basis b) = line basis_word b
+told (Added id) = line added_word id
+told (Found len checked) = number found_word len ++ line checked_word checked
 
 -- an entry of a search's list: the id, and the bits of its score
 unfoldable pub entry : ℕ → Float → List ℕ

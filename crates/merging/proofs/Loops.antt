@@ -11,8 +11,8 @@ use lib.ListN.{length, get_or, set, take, drop, length-drop}
 use lib.Seq.{sets, take-suc, get_or-drop, length-take-le}
 use Rattle.quantization.proofs.Sets.{sets-append}
 use Rattle.bitmaps.specs.Words.{has, shared, size}
-use Rattle.bitmaps.proofs.Zip.{byWord-length}
-use Rattle.bitmaps.proofs.Digits.{byWord-at}
+use Rattle.bitmaps.proofs.Zip.{by_word-length}
+use Rattle.bitmaps.proofs.Digits.{by_word-at}
 use Rattle.bitmaps.proofs.Size.{size-drop}
 use Rattle.merging.specs.Merging.{copied}
 
@@ -22,8 +22,8 @@ use Rattle.merging.specs.Merging.{copied}
 pub share-drop : (a b : List ℕ) (i : ℕ) → length a ≡ length b → i < length a
     → size (drop i (shared a b)) ≡ ones (bit_and (get_or a i 0) (get_or b i 0)) + size (drop (i + 1) (shared a b))
 share-drop a b i e h =
-    let l : i < length (shared a b) = subst (λ (k : ℕ). i < k) (sym (byWord-length bit_and a b)) h in
-    size-drop (shared a b) i l ∙ ap (λ (x : ℕ). ones x + size (drop (i + 1) (shared a b))) (byWord-at bit_and refl a b e i)
+    let l : i < length (shared a b) = subst (λ (k : ℕ). i < k) (sym (by_word-length bit_and a b)) h in
+    size-drop (shared a b) i l ∙ ap (λ (x : ℕ). ones x + size (drop (i + 1) (shared a b))) (by_word-at bit_and refl a b e i)
 
 -- ---- one slot
 

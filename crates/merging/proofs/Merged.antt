@@ -11,16 +11,16 @@ use borrow.Author.Tests.{eqb-true}
 use lib.ListN.{length, get_or, take, drop, length-drop}
 use lib.Seq.{sets, length-sets, length-take-le}
 use Rattle.paper.specs.Choice.{◌and◌, pick, refuse}
-use Rattle.paper.specs.Geometry.{Geo, geoOk}
+use Rattle.paper.specs.Geometry.{Geo, geo_ok}
 use Rattle.paper.proofs.Choice.{and_l, and_r, refuse-ok, refuse-rest}
-use Rattle.index_memory.specs.Memory.{Ix, ownOkIx, slotBytes, stored_at, Sized}
+use Rattle.index_memory.specs.Memory.{Ix, own_ok_ix, slot_bytes, stored_at, Sized}
 use Rattle.index_memory.proofs.Lengths.{own-sized}
 use Rattle.index_memory.proofs.Places.{place}
 use Rattle.index_memory.proofs.Stores.{part-sets, part_same}
 use Rattle.bitmaps.specs.Words.{has, holds, shared, size, is_empty}
 use Rattle.bitmaps.proofs.Digits.{has-union, has-shared}
 use Rattle.bitmaps.proofs.Size.{ones_none}
-use Rattle.merging.specs.Merging.{copied, mergedIx, mergeRefusal, mergeOf}
+use Rattle.merging.specs.Merging.{copied, merged_ix, merge_refusal, merge_of}
 
 -- ---- copied slots
 
@@ -105,31 +105,31 @@ passed x y z e =
     let r = refuse-rest x 1 (refuse 2 y (refuse 11 z 0)) no_one e in
     (refuse-ok x 1 (refuse 2 y (refuse 11 z 0)) no_one e, refuse-ok y 2 (refuse 11 z 0) no-two r, refuse-ok z 11 0 no-eleven (refuse-rest y 2 (refuse 11 z 0) no-two r))
 
-module _ (g : Geo) (a b : Ix) (e : (mergeOf g a b).answer ≡ 0) where
-  none : mergeRefusal g a b ≡ 0
-  unfolding mergeOf
+module _ (g : Geo) (a b : Ix) (e : (merge_of g a b).answer ≡ 0) where
+  none : merge_refusal g a b ≡ 0
+  unfolding merge_of
   none = e
 
-  after : (mergeOf g a b).ix ≡ mergedIx g a b
-  unfolding mergeOf
+  after : (merge_of g a b).ix ≡ merged_ix g a b
+  unfolding merge_of
   after = rw none
 
-  tests : (geoOk g.d g.n g.cap g.mode ≡ true) × ((ownOkIx g a and ownOkIx g b) ≡ true) × (is_empty (shared a.marks b.marks) ≡ true)
-  unfolding mergeRefusal
-  tests = passed (geoOk g.d g.n g.cap g.mode) (ownOkIx g a and ownOkIx g b) (is_empty (shared a.marks b.marks)) none
+  tests : (geo_ok g.d g.n g.cap g.mode ≡ true) × ((own_ok_ix g a and own_ok_ix g b) ≡ true) × (is_empty (shared a.marks b.marks) ≡ true)
+  unfolding merge_refusal
+  tests = passed (geo_ok g.d g.n g.cap g.mode) (own_ok_ix g a and own_ok_ix g b) (is_empty (shared a.marks b.marks)) none
 
   first : Sized g.d g.n g.cap g.mode (length a.faces) (length a.marks) (length a.vecs)
-  first = own-sized g.d g.n g.cap g.mode _ _ _ tests.0 (and_l (ownOkIx g a) (ownOkIx g b) tests.1)
+  first = own-sized g.d g.n g.cap g.mode _ _ _ tests.0 (and_l (own_ok_ix g a) (own_ok_ix g b) tests.1)
 
   second : Sized g.d g.n g.cap g.mode (length b.faces) (length b.marks) (length b.vecs)
-  second = own-sized g.d g.n g.cap g.mode _ _ _ tests.0 (and_r (ownOkIx g a) (ownOkIx g b) tests.1)
+  second = own-sized g.d g.n g.cap g.mode _ _ _ tests.0 (and_r (own_ok_ix g a) (own_ok_ix g b) tests.1)
 
-  pub faces-joined : (k : ℕ) → has (mergeOf g a b).ix.faces k ≡ max (has a.faces k) (has b.faces k)
-  unfolding mergedIx
+  pub faces-joined : (k : ℕ) → has (merge_of g a b).ix.faces k ≡ max (has a.faces k) (has b.faces k)
+  unfolding merged_ix
   faces-joined k = rw after (has-union a.faces b.faces (first.faces ∙ sym second.faces) k)
 
-  pub marks-joined : (i : ℕ) → has (mergeOf g a b).ix.marks i ≡ max (has a.marks i) (has b.marks i)
-  unfolding mergedIx
+  pub marks-joined : (i : ℕ) → has (merge_of g a b).ix.marks i ≡ max (has a.marks i) (has b.marks i)
+  unfolding merged_ix
   marks-joined i = rw after (has-union a.marks b.marks (first.marks ∙ sym second.marks) i)
 
   pub marks-apart : (i : ℕ) → min (has a.marks i) (has b.marks i) ≡ 0
@@ -137,6 +137,6 @@ module _ (g : Geo) (a b : Ix) (e : (mergeOf g a b).answer ≡ 0) where
       sym (has-shared a.marks b.marks (first.marks ∙ sym second.marks) i) ∙ no-has (shared a.marks b.marks) i (eqb-true _ _ tests.2)
 
   pub stored-joined : (i : ℕ) → i < g.cap
-      → stored_at g.d g.mode (mergeOf g a b).ix.vecs i ≡ pick (holds b.marks i) (stored_at g.d g.mode b.vecs i) (stored_at g.d g.mode a.vecs i)
-  unfolding mergedIx
-  stored-joined i h = rw after (part-copied (slotBytes g.d g.mode) g.cap b.marks b.vecs a.vecs second.vecs first.vecs g.cap i h (omega arith))
+      → stored_at g.d g.mode (merge_of g a b).ix.vecs i ≡ pick (holds b.marks i) (stored_at g.d g.mode b.vecs i) (stored_at g.d g.mode a.vecs i)
+  unfolding merged_ix
+  stored-joined i h = rw after (part-copied (slot_bytes g.d g.mode) g.cap b.marks b.vecs a.vecs second.vecs first.vecs g.cap i h (omega arith))

@@ -2,8 +2,8 @@
 use Rattle.std.specs.Prelude.{ℕ, zero, suc, ◌*◌, ◌≤◌, ◌≡◌, List, eqb, take, drop}
 use Rattle.std.proofs.lemmas.List.Edits.{sets}
 use Rattle.paper.specs.Choice.{◌and◌, pick, refuse}
-use Rattle.paper.specs.Geometry.{Geo, geoOk}
-use Rattle.index_memory.specs.Memory.{Ix, ixOf, ownOkIx, Done, done, slotBytes}
+use Rattle.paper.specs.Geometry.{Geo, geo_ok}
+use Rattle.index_memory.specs.Memory.{Ix, ix_of, own_ok_ix, Done, done, slot_bytes}
 use Rattle.bitmaps.specs.Words.{holds, union, shared, is_empty}
 
 -- slots of `size` bytes, of which those of the marked ids among the first k are copied
@@ -13,20 +13,20 @@ copied size (suc i) marks from vs =
     pick (holds marks i) (sets (copied size i marks from vs) (i * size) (take size (drop (i * size) from))) (copied size i marks from vs)
 
 -- face bits and marks are joined, and the second's marked vectors are copied
-unfoldable pub mergedIx : Geo → Ix → Ix → Ix
-mergedIx g a b =
-    ixOf (union a.faces b.faces) (union a.marks b.marks) (copied (slotBytes g.d g.mode) g.cap b.marks b.vecs a.vecs)
+unfoldable pub merged_ix : Geo → Ix → Ix → Ix
+merged_ix g a b =
+    ix_of (union a.faces b.faces) (union a.marks b.marks) (copied (slot_bytes g.d g.mode) g.cap b.marks b.vecs a.vecs)
 
 -- 1, 2 for a length of either index, 11 for an id that both have marked, or 0
-unfoldable pub mergeRefusal : Geo → Ix → Ix → ℕ
-mergeRefusal g a b =
-    refuse 1 (geoOk g.d g.n g.cap g.mode)
-    (refuse 2 (ownOkIx g a and ownOkIx g b)
+unfoldable pub merge_refusal : Geo → Ix → Ix → ℕ
+merge_refusal g a b =
+    refuse 1 (geo_ok g.d g.n g.cap g.mode)
+    (refuse 2 (own_ok_ix g a and own_ok_ix g b)
     (refuse 11 (is_empty (shared a.marks b.marks)) 0))
 
 -- a refusal changes nothing
-unfoldable pub mergeOf : Geo → Ix → Ix → Done
-mergeOf g a b = let r = mergeRefusal g a b in done r (pick (eqb r 0) (mergedIx g a b) a)
+unfoldable pub merge_of : Geo → Ix → Ix → Done
+merge_of g a b = let r = merge_refusal g a b in done r (pick (eqb r 0) (merged_ix g a b) a)
 
 -- ---- what the private functions ask
 

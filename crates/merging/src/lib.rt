@@ -4,9 +4,9 @@
 ghost use Rattle.std.specs.Prelude.{◌≡◌, ◌+◌, ◌*◌, ◌≤◌, length, take, drop};
 ghost use Rattle.std.proofs.lemmas.List.Edits.{sets};
 ghost use Rattle.paper.specs.Geometry.{geo};
-ghost use Rattle.index_memory.specs.Memory.{ixOf, done};
+ghost use Rattle.index_memory.specs.Memory.{ix_of, done};
 ghost use Rattle.bitmaps.specs.Words.{shared, is_empty};
-ghost use Rattle.merging.specs.Merging.{copied, mergeOf, CopyArgs};
+ghost use Rattle.merging.specs.Merging.{copied, merge_of, CopyArgs};
 ghost use Rattle.merging.specs.Laws.{Laws};
 
 use bitmaps::Found;
@@ -71,7 +71,7 @@ pub fn merge(
     cap: usize,
     mode: usize,
 ) -> u32
-    ensures { done result (ixOf faces.new marks.new vectors.new) ≡ mergeOf (geo d n cap mode) (ixOf faces.old marks.old vectors.old) (ixOf faces2.now marks2.now vectors2.now) }
+    ensures { done result (ix_of faces.new marks.new vectors.new) ≡ merge_of (geo d n cap mode) (ix_of faces.old marks.old vectors.old) (ix_of faces2.now marks2.now vectors2.now) }
 {
     let r = index_memory::own_refusal(d, n, cap, mode, faces.len(), marks.len(), vectors.len());
     if r != 0 {

@@ -13,22 +13,22 @@ use lib.Ieee.{Float}
 use lib.ListN.{length, take, drop, length-drop}
 use lib.Seq.{sets, length-take-le}
 use Rattle.paper.specs.Choice.{◌and◌, pick}
-use Rattle.paper.specs.Geometry.{Geo, geoOk, faceWords, setWords}
-use Rattle.index_memory.specs.Memory.{Ix, emptyIx, faceBit, slotBytes, floatZeros}
+use Rattle.paper.specs.Geometry.{Geo, geo_ok, face_words, set_words}
+use Rattle.index_memory.specs.Memory.{Ix, empty_ix, face_bit, slot_bytes, float_zeros}
 use Rattle.index_memory.proofs.Places.{place, mark-low}
 use Rattle.index_memory.proofs.Stores.{sets-comm, sets_over, part-sets, part_same}
 use Rattle.bitmaps.specs.Words.{has, holds, union, shared, inserted, empty, is_empty}
-use Rattle.bitmaps.proofs.Zip.{byWord-length}
+use Rattle.bitmaps.proofs.Zip.{by_word-length}
 use lib.Bits.{bit_or}
 use Rattle.vector.specs.Norm.{normalized}
-use Rattle.quantization.specs.Stored.{lowerBytes}
-use Rattle.adding.specs.Adding.{faceSlot, withFaces, withVector, addedIx, Shaped}
+use Rattle.quantization.specs.Stored.{lower_bytes}
+use Rattle.adding.specs.Adding.{face_slot, with_faces, with_vector, added_ix, Shaped}
 use Rattle.adding.proofs.Accepted.{length-stored}
 use Rattle.adding.proofs.Faces.{length-faces}
 use Rattle.merging.proofs.Merged.{length-copied}
-use Rattle.merging.specs.Merging.{copied, mergedIx, mergeRefusal, mergeOf}
+use Rattle.merging.specs.Merging.{copied, merged_ix, merge_refusal, merge_of}
 use Rattle.order_free.specs.Order.{Addition, Call, whats, WorkLent, run, Shuffle, Fresh, Distinct, Deal, one, two, dealt, built, AllAccepted}
-use Rattle.order_free.specs.Grown.{last_or, taken, takenAs, mark_of}
+use Rattle.order_free.specs.Grown.{last_or, taken, taken_as, mark_of}
 use Rattle.bitmaps.proofs.Members.{has-empty}
 use Rattle.order_free.proofs.Words.{union-inserted, union-empty, has-put, share-none}
 use Rattle.order_free.proofs.Orders.{ix-eq, SameLen, same-trans, same-sym, num, num-same, put, puts, put_same, puts-same, shape-good, run_is, distinct-shuffle, puts-shuffle}
@@ -114,58 +114,58 @@ module _ (size id : ℕ) (ms from vs xs : List ℕ) (lm : id < length ms * 64) (
 
 -- ---- one addition, merged: merging replays the second index's additions
 
-faces-to : (d cap id : ℕ) (slot : ℕ → ℕ) (fs gs : List ℕ) → length fs ≡ length gs → (n : ℕ) → union fs (withFaces d cap id slot n gs) ≡ withFaces d cap id slot n (union fs gs)
-unfolding withFaces
+faces-to : (d cap id : ℕ) (slot : ℕ → ℕ) (fs gs : List ℕ) → length fs ≡ length gs → (n : ℕ) → union fs (with_faces d cap id slot n gs) ≡ with_faces d cap id slot n (union fs gs)
+unfolding with_faces
 faces-to d cap id slot fs gs e zero = refl
 faces-to d cap id slot fs gs e (suc b) =
-    union-inserted fs (withFaces d cap id slot b gs) _ (e ∙ sym (length-faces d cap id slot b gs))
-    ∙ ap (λ (r : List ℕ). inserted r (faceBit d cap b (slot b) id)) (faces-to d cap id slot fs gs e b)
+    union-inserted fs (with_faces d cap id slot b gs) _ (e ∙ sym (length-faces d cap id slot b gs))
+    ∙ ap (λ (r : List ℕ). inserted r (face_bit d cap b (slot b) id)) (faces-to d cap id slot fs gs e b)
 
 module _ (g : Geo) (bs : List Float) where
   merge-put : (a : Addition) (s t : Ix) → SameLen s t
-      → Shaped g a.id (length bs) (length t.faces) (length t.marks) (length t.vecs) (length (floatZeros g.d)) (length a.v)
-      → mergedIx g s (addedIx g bs a.id a.v t) ≡ addedIx g bs a.id a.v (mergedIx g s t)
-  unfolding mergedIx addedIx withVector
+      → Shaped g a.id (length bs) (length t.faces) (length t.marks) (length t.vecs) (length (float_zeros g.d)) (length a.v)
+      → merged_ix g s (added_ix g bs a.id a.v t) ≡ added_ix g bs a.id a.v (merged_ix g s t)
+  unfolding merged_ix added_ix with_vector
   merge-put a s t e sh =
       let lm : a.id < length t.marks * 64 = subst (λ (k : ℕ). a.id < k * 64) (sym sh.marks) (mark-low g.cap a.id sh.facts.cap-even sh.id-low) in
-      let lv : a.id * slotBytes g.d g.mode + slotBytes g.d g.mode ≤ length t.vecs =
-      subst (λ (k : ℕ). a.id * slotBytes g.d g.mode + slotBytes g.d g.mode ≤ k) (sym sh.vectors) (place a.id g.cap (slotBytes g.d g.mode) sh.id-low) in
-      ix-eq (faces-to g.d g.cap a.id (faceSlot g.d bs a.v) s.faces t.faces e.faces g.n)
+      let lv : a.id * slot_bytes g.d g.mode + slot_bytes g.d g.mode ≤ length t.vecs =
+      subst (λ (k : ℕ). a.id * slot_bytes g.d g.mode + slot_bytes g.d g.mode ≤ k) (sym sh.vectors) (place a.id g.cap (slot_bytes g.d g.mode) sh.id-low) in
+      ix-eq (faces-to g.d g.cap a.id (face_slot g.d bs a.v) s.faces t.faces e.faces g.n)
       (union-inserted s.marks t.marks a.id e.marks)
-      (copy-high (slotBytes g.d g.mode) a.id t.marks t.vecs s.vecs (lowerBytes g.mode (normalized a.v)) lm
+      (copy-high (slot_bytes g.d g.mode) a.id t.marks t.vecs s.vecs (lower_bytes g.mode (normalized a.v)) lm
       (length-stored g.d g.mode a.v sh.vector) lv g.cap sh.id-low)
 
-  merge-len : (s t : Ix) → SameLen (mergedIx g s t) s
-  unfolding mergedIx
+  merge-len : (s t : Ix) → SameLen (merged_ix g s t) s
+  unfolding merged_ix
   merge-len s t =
       record {
-        faces = byWord-length bit_or s.faces t.faces;
-        marks = byWord-length bit_or s.marks t.marks;
-        vecs = length-copied (slotBytes g.d g.mode) g.cap t.marks t.vecs s.vecs;
+        faces = by_word-length bit_or s.faces t.faces;
+        marks = by_word-length bit_or s.marks t.marks;
+        vecs = length-copied (slot_bytes g.d g.mode) g.cap t.marks t.vecs s.vecs;
       }
 
-  merge-pick : (b : Bool) (s t : Ix) (p : Ix → Ix) → (b ≡ true → mergedIx g s (p t) ≡ p (mergedIx g s t)) → mergedIx g s (pick b (p t) t) ≡ pick b (p (mergedIx g s t)) (mergedIx g s t)
+  merge-pick : (b : Bool) (s t : Ix) (p : Ix → Ix) → (b ≡ true → merged_ix g s (p t) ≡ p (merged_ix g s t)) → merged_ix g s (pick b (p t) t) ≡ pick b (p (merged_ix g s t)) (merged_ix g s t)
   merge-pick true s t p h = h refl
   merge-pick false s t p h = refl
 
-  merge-one : (a : Addition) (s t : Ix) → SameLen s t → mergedIx g s (put g bs a t) ≡ put g bs a (mergedIx g s t)
+  merge-one : (a : Addition) (s t : Ix) → SameLen s t → merged_ix g s (put g bs a t) ≡ put g bs a (merged_ix g s t)
   unfolding put
   merge-one a s t e =
-      merge-pick (eqb (num g bs a t) 0) s t (addedIx g bs a.id a.v) (λ p. merge-put a s t e (shape-good g bs a t (eqb-true _ _ p)))
-      ∙ ap (λ (r : ℕ). pick (eqb r 0) (addedIx g bs a.id a.v (mergedIx g s t)) (mergedIx g s t)) (num-same g bs a t (mergedIx g s t) (same-sym (same-trans (merge-len s t) e)))
+      merge-pick (eqb (num g bs a t) 0) s t (added_ix g bs a.id a.v) (λ p. merge-put a s t e (shape-good g bs a t (eqb-true _ _ p)))
+      ∙ ap (λ (r : ℕ). pick (eqb r 0) (added_ix g bs a.id a.v (merged_ix g s t)) (merged_ix g s t)) (num-same g bs a t (merged_ix g s t) (same-sym (same-trans (merge-len s t) e)))
 
-  merge-puts : (ys : List Addition) (s t : Ix) → SameLen s t → mergedIx g s (puts g bs ys t) ≡ puts g bs ys (mergedIx g s t)
+  merge-puts : (ys : List Addition) (s t : Ix) → SameLen s t → merged_ix g s (puts g bs ys t) ≡ puts g bs ys (merged_ix g s t)
   unfolding puts
   merge-puts [] s t e = refl
   merge-puts (y ∷ ys) s t e =
       merge-puts ys s (put g bs y t) (same-trans e (same-sym (put_same g bs y t)))
       ∙ ap (λ (x : Ix). puts g bs ys x) (merge-one y s t e)
 
-  merge-empty : (s : Ix) → mergedIx g s (emptyIx g) ≡ s
-  unfolding mergedIx emptyIx
+  merge-empty : (s : Ix) → merged_ix g s (empty_ix g) ≡ s
+  unfolding merged_ix empty_ix
   merge-empty s =
-      ix-eq (union-empty s.faces (faceWords g.d g.n g.cap)) (union-empty s.marks (setWords g.cap))
-      (copied_none (slotBytes g.d g.mode) g.cap (setWords g.cap) _ s.vecs)
+      ix-eq (union-empty s.faces (face_words g.d g.n g.cap)) (union-empty s.marks (set_words g.cap))
+      (copied_none (slot_bytes g.d g.mode) g.cap (set_words g.cap) _ s.vecs)
 
   pub puts-append : (xs ys : List Addition) (ix : Ix) → puts g bs (xs ++ ys) ix ≡ puts g bs ys (puts g bs xs ix)
   unfolding puts
@@ -235,12 +235,12 @@ module _ (g : Geo) (bs : List Float) where
   no-and false = refl
 
   -- an id that stands in no addition has no mark
-  fresh-mark : (i : ℕ) (xs : List Addition) (o : ℕ) → Fresh i xs → last_or (takenAs g bs i) (λ (a : Addition). 1) xs o ≡ o
+  fresh-mark : (i : ℕ) (xs : List Addition) (o : ℕ) → Fresh i xs → last_or (taken_as g bs i) (λ (a : Addition). 1) xs o ≡ o
   unfolding last_or
   fresh-mark i [] o f = refl
   fresh-mark i (x ∷ xs) o f =
-      let no : takenAs g bs i x ≡ false = ap (λ (b : Bool). taken g bs x and b) (ne_eqb x.id i f.0) ∙ no-and (taken g bs x) in
-      ap (λ (b : Bool). last_or (takenAs g bs i) (λ (a : Addition). 1) xs (pick b 1 o)) no ∙ fresh-mark i xs o f.1
+      let no : taken_as g bs i x ≡ false = ap (λ (b : Bool). taken g bs x and b) (ne_eqb x.id i f.0) ∙ no-and (taken g bs x) in
+      ap (λ (b : Bool). last_or (taken_as g bs i) (λ (a : Addition). 1) xs (pick b 1 o)) no ∙ fresh-mark i xs o f.1
 
   not-both : (xs ys : List Addition) → Cross xs ys → (i : ℕ) → min (mark_of g bs xs i) (mark_of g bs ys i) ≡ 0
   not-both xs ys c i = ⊎_elim left right (stands-or i xs)
@@ -253,33 +253,33 @@ module _ (g : Geo) (bs : List Float) where
 
   -- ---- two indexes from additions with different ids merge to the index of both
 
-  module _ (good : geoOk g.d g.n g.cap g.mode ≡ true) where
+  module _ (good : geo_ok g.d g.n g.cap g.mode ≡ true) where
     abbrev of : List Addition → Ix
-    of xs = puts g bs xs (emptyIx g)
+    of xs = puts g bs xs (empty_ix g)
 
     marks-apart : (xs ys : List Addition) → Cross xs ys → is_empty (shared (of xs).marks (of ys).marks) ≡ true
     marks-apart xs ys c =
         let p = grown-puts g bs xs in
         let q = grown-puts g bs ys in
-        share-none (of xs).marks (of ys).marks (same-trans (puts-same g bs xs (emptyIx g)) (same-sym (puts-same g bs ys (emptyIx g)))).marks p.mark-words q.mark-words
+        share-none (of xs).marks (of ys).marks (same-trans (puts-same g bs xs (empty_ix g)) (same-sym (puts-same g bs ys (empty_ix g)))).marks p.mark-words q.mark-words
         (λ i. ap₂ (λ (x y : ℕ). min x y) (p.marks i) (q.marks i) ∙ not-both xs ys c i)
 
-    merge-no : (xs ys : List Addition) → Cross xs ys → mergeRefusal g (of xs) (of ys) ≡ 0
-    unfolding mergeRefusal
+    merge-no : (xs ys : List Addition) → Cross xs ys → merge_refusal g (of xs) (of ys) ≡ 0
+    unfolding merge_refusal
     merge-no xs ys c = rw (good, (grown-puts g bs xs).lengths, (grown-puts g bs ys).lengths, marks-apart xs ys c)
 
-    merge-all : (xs ys : List Addition) → mergedIx g (of xs) (of ys) ≡ of (xs ++ ys)
+    merge-all : (xs ys : List Addition) → merged_ix g (of xs) (of ys) ≡ of (xs ++ ys)
     merge-all xs ys =
-        merge-puts g bs ys (of xs) (emptyIx g) (puts-same g bs xs (emptyIx g))
-        ∙ ap (λ (x : Ix). puts g bs ys x) (merge-empty g bs (of xs)) ∙ sym (puts-append g bs xs ys (emptyIx g))
+        merge-puts g bs ys (of xs) (empty_ix g) (puts-same g bs xs (empty_ix g))
+        ∙ ap (λ (x : Ix). puts g bs ys x) (merge-empty g bs (of xs)) ∙ sym (puts-append g bs xs ys (empty_ix g))
 
-    merge-answer : (xs ys : List Addition) → Cross xs ys → (mergeOf g (of xs) (of ys)).answer ≡ 0
-    unfolding mergeOf
+    merge-answer : (xs ys : List Addition) → Cross xs ys → (merge_of g (of xs) (of ys)).answer ≡ 0
+    unfolding merge_of
     merge-answer xs ys c = merge-no xs ys c
 
-    merge-index : (xs ys : List Addition) → Cross xs ys → (mergeOf g (of xs) (of ys)).ix ≡ of (xs ++ ys)
-    unfolding mergeOf
-    merge-index xs ys c = ap (λ (r : ℕ). pick (eqb r 0) (mergedIx g (of xs) (of ys)) (of xs)) (merge-no xs ys c) ∙ merge-all xs ys
+    merge-index : (xs ys : List Addition) → Cross xs ys → (merge_of g (of xs) (of ys)).ix ≡ of (xs ++ ys)
+    unfolding merge_of
+    merge-index xs ys c = ap (λ (r : ℕ). pick (eqb r 0) (merged_ix g (of xs) (of ys)) (of xs)) (merge-no xs ys c) ∙ merge-all xs ys
 
     -- ---- any tree of merges
 
@@ -297,20 +297,20 @@ module _ (g : Geo) (bs : List Float) where
 
     built-is : (t : Deal) → WorkLent g (dealt t) → Distinct (whats (dealt t)) → (built g bs t ≡ of (whats (dealt t))) × AllAccepted g bs t
     unfolding built
-    built-is (one cs) l f = (run_is g bs cs (emptyIx g) l, tt)
+    built-is (one cs) l f = (run_is g bs cs (empty_ix g) l, tt)
     built-is (two p q) l f =
         let f' : Distinct (whats (dealt p) ++ whats (dealt q)) = subst (λ (r : List Addition). Distinct r) (whats-append (dealt p) (dealt q)) f in
         let c : Cross (whats (dealt p)) (whats (dealt q)) = cross-of (whats (dealt p)) (whats (dealt q)) f' in
         let hl = built-is p (lent-l (dealt p) (dealt q) l) (distinct-l (whats (dealt p)) (whats (dealt q)) f') in
         let hr = built-is q (lent-r (dealt p) (dealt q) l) (distinct-r (whats (dealt p)) (whats (dealt q)) f') in (
-          ap₂ (λ (x y : Ix). (mergeOf g x y).ix) hl.0 hr.0 ∙ merge-index (whats (dealt p)) (whats (dealt q)) c ∙ ap of (sym (whats-append (dealt p) (dealt q))),
-          (ap₂ (λ (x y : Ix). (mergeOf g x y).answer) hl.0 hr.0 ∙ merge-answer (whats (dealt p)) (whats (dealt q)) c, hl.1, hr.1),
+          ap₂ (λ (x y : Ix). (merge_of g x y).ix) hl.0 hr.0 ∙ merge-index (whats (dealt p)) (whats (dealt q)) c ∙ ap of (sym (whats-append (dealt p) (dealt q))),
+          (ap₂ (λ (x y : Ix). (merge_of g x y).answer) hl.0 hr.0 ∙ merge-answer (whats (dealt p)) (whats (dealt q)) c, hl.1, hr.1),
         )
 
     -- DEMAND 3, merging: dealt out in any way to empty indexes, which are merged in any order and grouping, additions with different ids give the
     -- index that any order of them gives, every merge answers 0, and no work memory matters
     pub any-deal : (cs : List Call) → WorkLent g cs → Distinct (whats cs) → (t : Deal) → WorkLent g (dealt t) → Shuffle (whats cs) (whats (dealt t))
-        → (built g bs t ≡ run g bs cs (emptyIx g)) × AllAccepted g bs t
+        → (built g bs t ≡ run g bs cs (empty_ix g)) × AllAccepted g bs t
     any-deal cs l f t m s =
         let b = built-is t m (distinct-shuffle s f) in
-        (b.0 ∙ sym (puts-shuffle g bs s f (emptyIx g)) ∙ sym (run_is g bs cs (emptyIx g) l), b.1)
+        (b.0 ∙ sym (puts-shuffle g bs s f (empty_ix g)) ∙ sym (run_is g bs cs (empty_ix g) l), b.1)

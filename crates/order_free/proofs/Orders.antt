@@ -9,13 +9,13 @@ use lib.Ieee.{Float}
 use lib.ListN.{length, length-replicate}
 use lib.Seq.{length-sets}
 use Rattle.paper.specs.Choice.{pick}
-use Rattle.paper.specs.Geometry.{Geo, compSize}
-use Rattle.index_memory.specs.Memory.{Ix, ixOf, emptyIx, faceBit, slot_at, floatZeros}
+use Rattle.paper.specs.Geometry.{Geo, comp_size}
+use Rattle.index_memory.specs.Memory.{Ix, ix_of, empty_ix, face_bit, slot_at, float_zeros}
 use Rattle.index_memory.proofs.Stores.{sets-comm, places-apart}
 use Rattle.bitmaps.specs.Words.{inserted}
 use Rattle.vector.specs.Norm.{normalized}
-use Rattle.quantization.specs.Stored.{lowerBytes}
-use Rattle.adding.specs.Adding.{faceSlot, withFaces, withVector, addedIx, addRefusal, addOf, Shaped}
+use Rattle.quantization.specs.Stored.{lower_bytes}
+use Rattle.adding.specs.Adding.{face_slot, with_faces, with_vector, added_ix, add_refusal, add_of, Shaped}
 use Rattle.adding.proofs.Accepted.{length-stored, accepted-shape}
 use Rattle.adding.proofs.Faces.{length-faces}
 use Rattle.order_free.specs.Order.{Addition, Call, whats, WorkLent, answer, step, run, Shuffle, none, keep, swap, then, Fresh, Distinct}
@@ -24,36 +24,36 @@ use Rattle.order_free.proofs.Words.{inserted-comm, length_inserted}
 -- ---- face bits
 
 module _ (d cap id : ℕ) (slot : ℕ → ℕ) where
-  faces-put : (n : ℕ) (fs : List ℕ) (k : ℕ) → withFaces d cap id slot n (inserted fs k) ≡ inserted (withFaces d cap id slot n fs) k
-  unfolding withFaces
+  faces-put : (n : ℕ) (fs : List ℕ) (k : ℕ) → with_faces d cap id slot n (inserted fs k) ≡ inserted (with_faces d cap id slot n fs) k
+  unfolding with_faces
   faces-put zero fs k = refl
   faces-put (suc b) fs k =
-      ap (λ (r : List ℕ). inserted r (faceBit d cap b (slot b) id)) (faces-put b fs k) ∙ inserted-comm (withFaces d cap id slot b fs) k _
+      ap (λ (r : List ℕ). inserted r (face_bit d cap b (slot b) id)) (faces-put b fs k) ∙ inserted-comm (with_faces d cap id slot b fs) k _
 
 faces-comm : (d cap : ℕ) (s t : ℕ → ℕ) (i j n k : ℕ) (fs : List ℕ)
-    → withFaces d cap i s n (withFaces d cap j t k fs) ≡ withFaces d cap j t k (withFaces d cap i s n fs)
-unfolding withFaces
+    → with_faces d cap i s n (with_faces d cap j t k fs) ≡ with_faces d cap j t k (with_faces d cap i s n fs)
+unfolding with_faces
 faces-comm d cap s t i j n zero fs = refl
 faces-comm d cap s t i j n (suc b) fs =
-    faces-put d cap i s n (withFaces d cap j t b fs) _
-    ∙ ap (λ (r : List ℕ). inserted r (faceBit d cap b (t b) j)) (faces-comm d cap s t i j n b fs)
+    faces-put d cap i s n (with_faces d cap j t b fs) _
+    ∙ ap (λ (r : List ℕ). inserted r (face_bit d cap b (t b) j)) (faces-comm d cap s t i j n b fs)
 
 -- ---- stored bytes
 
-pub length-vec : (d mode id : ℕ) (v : List Float) (vs : List ℕ) → length (withVector d mode id v vs) ≡ length vs
-unfolding withVector
-length-vec d mode id v vs = length-sets vs (slot_at d mode id) (lowerBytes mode (normalized v))
+pub length-vec : (d mode id : ℕ) (v : List Float) (vs : List ℕ) → length (with_vector d mode id v vs) ≡ length vs
+unfolding with_vector
+length-vec d mode id v vs = length-sets vs (slot_at d mode id) (lower_bytes mode (normalized v))
 
 vec-comm : (d mode i j : ℕ) (v u : List Float) (vs : List ℕ) → (i ≡ j → ⊥) → length v ≡ d → length u ≡ d
-    → withVector d mode j u (withVector d mode i v vs) ≡ withVector d mode i v (withVector d mode j u vs)
-unfolding withVector
+    → with_vector d mode j u (with_vector d mode i v vs) ≡ with_vector d mode i v (with_vector d mode j u vs)
+unfolding with_vector
 vec-comm d mode i j v u vs h p q =
-    sets-comm (lowerBytes mode (normalized u)) (lowerBytes mode (normalized v)) vs _ _
-    (places-apart i j (compSize mode * d) _ _ h (length-stored d mode v p) (length-stored d mode u q))
+    sets-comm (lower_bytes mode (normalized u)) (lower_bytes mode (normalized v)) vs _ _
+    (places-apart i j (comp_size mode * d) _ _ h (length-stored d mode v p) (length-stored d mode u q))
 
 -- ---- one addition
 
-pub ix-eq : {f f' m m' v v' : List ℕ} → f ≡ f' → m ≡ m' → v ≡ v' → ixOf f m v ≡ ixOf f' m' v'
+pub ix-eq : {f f' m m' v v' : List ℕ} → f ≡ f' → m ≡ m' → v ≡ v' → ix_of f m v ≡ ix_of f' m' v'
 ix-eq {f} {f'} {m} {m'} {v} {v'} p q r = rw (p, q, r) refl
 
 pub record SameLen (a b : Ix) : Type 0 where
@@ -71,47 +71,47 @@ pub same-sym : {a b : Ix} → SameLen a b → SameLen b a
 same-sym s = record { faces = sym s.faces; marks = sym s.marks; vecs = sym s.vecs }
 
 module _ (g : Geo) (bs : List Float) where
-  pub put-len : (id : ℕ) (v : List Float) (ix : Ix) → SameLen (addedIx g bs id v ix) ix
-  unfolding addedIx
+  pub put-len : (id : ℕ) (v : List Float) (ix : Ix) → SameLen (added_ix g bs id v ix) ix
+  unfolding added_ix
   put-len id v ix =
       record {
-        faces = length-faces g.d g.cap id (faceSlot g.d bs v) g.n ix.faces;
+        faces = length-faces g.d g.cap id (face_slot g.d bs v) g.n ix.faces;
         marks = length_inserted ix.marks id;
         vecs = length-vec g.d g.mode id v ix.vecs;
       }
 
   put-put : (i j : ℕ) (v u : List Float) (ix : Ix) → (i ≡ j → ⊥) → length v ≡ g.d → length u ≡ g.d
-      → addedIx g bs j u (addedIx g bs i v ix) ≡ addedIx g bs i v (addedIx g bs j u ix)
-  unfolding addedIx
+      → added_ix g bs j u (added_ix g bs i v ix) ≡ added_ix g bs i v (added_ix g bs j u ix)
+  unfolding added_ix
   put-put i j v u ix h p q =
-      ix-eq (faces-comm g.d g.cap (faceSlot g.d bs u) (faceSlot g.d bs v) j i g.n g.n ix.faces) (inserted-comm ix.marks i j)
+      ix-eq (faces-comm g.d g.cap (face_slot g.d bs u) (face_slot g.d bs v) j i g.n g.n ix.faces) (inserted-comm ix.marks i j)
       (vec-comm g.d g.mode i j v u ix.vecs h p q)
 
   -- ---- the work memory doesn't matter, and the index only by its lengths
 
   -- the refusal of an addition, with zeros for work memory
   abbrev pub num : Addition → Ix → ℕ
-  num a ix = addRefusal g bs a.id a.v ix (floatZeros g.d)
+  num a ix = add_refusal g bs a.id a.v ix (float_zeros g.d)
 
-  pub num-is : (c : Call) (ix : Ix) → length c.work ≡ g.d → addRefusal g bs c.what.id c.what.v ix c.work ≡ num c.what ix
-  unfolding addRefusal
+  pub num-is : (c : Call) (ix : Ix) → length c.work ≡ g.d → add_refusal g bs c.what.id c.what.v ix c.work ≡ num c.what ix
+  unfolding add_refusal
   num-is c ix e = rw (e, length-replicate) refl
 
   pub num-same : (a : Addition) (ix ix' : Ix) → SameLen ix ix' → num a ix ≡ num a ix'
-  unfolding addRefusal
+  unfolding add_refusal
   num-same a ix ix' s = rw (s.faces, s.marks, s.vecs) refl
 
   -- an addition, with any work memory
   unfoldable pub put : Addition → Ix → Ix
-  put a ix = pick (eqb (num a ix) 0) (addedIx g bs a.id a.v ix) ix
+  put a ix = pick (eqb (num a ix) 0) (added_ix g bs a.id a.v ix) ix
 
   unfoldable pub puts : List Addition → Ix → Ix
   puts [] ix = ix
   puts (a ∷ more) ix = puts more (put a ix)
 
   pub step_is : (c : Call) (ix : Ix) → length c.work ≡ g.d → step g bs c ix ≡ put c.what ix
-  unfolding step addOf put
-  step_is c ix e = ap (λ (r : ℕ). pick (eqb r 0) (addedIx g bs c.what.id c.what.v ix) ix) (num-is c ix e)
+  unfolding step add_of put
+  step_is c ix e = ap (λ (r : ℕ). pick (eqb r 0) (added_ix g bs c.what.id c.what.v ix) ix) (num-is c ix e)
 
   pub run_is : (cs : List Call) (ix : Ix) → WorkLent g cs → run g bs cs ix ≡ puts (whats cs) ix
   unfolding run puts
@@ -127,8 +127,8 @@ module _ (g : Geo) (bs : List Float) where
   put_same a ix = pick-len (eqb (num a ix) 0) _ ix (put-len a.id a.v ix)
 
   pub shape-good : (a : Addition) (ix : Ix) → num a ix ≡ 0
-      → Shaped g a.id (length bs) (length ix.faces) (length ix.marks) (length ix.vecs) (length (floatZeros g.d)) (length a.v)
-  shape-good a ix e = accepted-shape g bs a.id a.v ix (floatZeros g.d) e
+      → Shaped g a.id (length bs) (length ix.faces) (length ix.marks) (length ix.vecs) (length (float_zeros g.d)) (length a.v)
+  shape-good a ix e = accepted-shape g bs a.id a.v ix (float_zeros g.d) e
 
   both : (x y : Bool) (ix : Ix) (p q : Ix → Ix) → (x ≡ true → y ≡ true → q (p ix) ≡ p (q ix))
       → pick y (q (pick x (p ix) ix)) (pick x (p ix) ix) ≡ pick x (p (pick y (q ix) ix)) (pick y (q ix) ix)
@@ -137,16 +137,16 @@ module _ (g : Geo) (bs : List Float) where
   both false true ix p q h = refl
   both false false ix p q h = refl
 
-  put-after : (a b : Addition) (ix : Ix) → put b (put a ix) ≡ pick (eqb (num b ix) 0) (addedIx g bs b.id b.v (put a ix)) (put a ix)
+  put-after : (a b : Addition) (ix : Ix) → put b (put a ix) ≡ pick (eqb (num b ix) 0) (added_ix g bs b.id b.v (put a ix)) (put a ix)
   unfolding put
   put-after a b ix =
-      ap (λ (r : ℕ). pick (eqb r 0) (addedIx g bs b.id b.v (put a ix)) (put a ix)) (num-same b _ ix (put_same a ix))
+      ap (λ (r : ℕ). pick (eqb r 0) (added_ix g bs b.id b.v (put a ix)) (put a ix)) (num-same b _ ix (put_same a ix))
 
   put-comm : (a b : Addition) (ix : Ix) → (a.id ≡ b.id → ⊥) → put b (put a ix) ≡ put a (put b ix)
   unfolding put
   put-comm a b ix h =
       put-after a b ix
-      ∙ both (eqb (num a ix) 0) (eqb (num b ix) 0) ix (addedIx g bs a.id a.v) (addedIx g bs b.id b.v)
+      ∙ both (eqb (num a ix) 0) (eqb (num b ix) 0) ix (added_ix g bs a.id a.v) (added_ix g bs b.id b.v)
       (λ p q. put-put a.id b.id a.v b.v ix h (shape-good a ix (eqb-true _ _ p)).vector (shape-good b ix (eqb-true _ _ q)).vector)
       ∙ sym (put-after b a ix)
 
@@ -182,11 +182,11 @@ module _ (g : Geo) (bs : List Float) where
 
   -- DEMAND 3, answers: an addition's answer is the same after any additions, and whatever work memory the calls are lent
   pub answer-anywhere : (cs ds : List Call) → WorkLent g cs → WorkLent g ds → (c d : Call) → length c.work ≡ g.d → length d.work ≡ g.d → c.what ≡ d.what
-      → answer g bs c (run g bs cs (emptyIx g)) ≡ answer g bs d (run g bs ds (emptyIx g))
-  unfolding answer addOf
+      → answer g bs c (run g bs cs (empty_ix g)) ≡ answer g bs d (run g bs ds (empty_ix g))
+  unfolding answer add_of
   answer-anywhere cs ds lc ld c d p q e =
-      num-is g bs c _ p ∙ num-same g bs c.what _ _ (same-trans (run-same cs lc (emptyIx g)) (same-sym (run-same ds ld (emptyIx g))))
-      ∙ ap (λ (a : Addition). num g bs a (run g bs ds (emptyIx g))) e ∙ sym (num-is g bs d _ q)
+      num-is g bs c _ p ∙ num-same g bs c.what _ _ (same-trans (run-same cs lc (empty_ix g)) (same-sym (run-same ds ld (empty_ix g))))
+      ∙ ap (λ (a : Addition). num g bs a (run g bs ds (empty_ix g))) e ∙ sym (num-is g bs d _ q)
 
   -- DEMAND 3, the index: every order of additions with different ids gives the same index, byte for byte, from any index and so from an empty
   -- one, and whatever work memory the calls are lent

@@ -15,8 +15,8 @@ use lib.ListN.{length, get_or, set, length-set}
 use lib.Seq.{get_or-set_same, get_or-set_other}
 use Rattle.paper.specs.Choice.{pick}
 use Rattle.bitmaps.specs.Words.{has, by_word, union, shared, inserted, empty, size, is_empty, sum_to}
-use Rattle.bitmaps.proofs.Digits.{Words, byWord-at, has-shared}
-use Rattle.bitmaps.proofs.Rising.{has-inserted, has_kept}
+use Rattle.bitmaps.proofs.Digits.{Words, by_word-at, has-shared}
+use Rattle.bitmaps.proofs.Rising.{has-inserted, has-kept}
 use Rattle.bitmaps.proofs.Size.{size-has, sum-ext}
 
 -- ---- or
@@ -50,10 +50,10 @@ or_swap x m n = or_assoc x m n ∙ ap (λ (r : ℕ). bit_or x r) (or_comm m n) �
 
 -- ---- bits put in
 
-abbrev orAt : List ℕ → ℕ → ℕ → List ℕ
-orAt ws k m = set ws k (bit_or (get_or ws k 0) m)
+abbrev or_at : List ℕ → ℕ → ℕ → List ℕ
+or_at ws k m = set ws k (bit_or (get_or ws k 0) m)
 
-or-comm-at : (ws : List ℕ) (j m k n : ℕ) → orAt (orAt ws j m) k n ≡ orAt (orAt ws k n) j m
+or-comm-at : (ws : List ℕ) (j m k n : ℕ) → or_at (or_at ws j m) k n ≡ or_at (or_at ws k n) j m
 or-comm-at [] j m k n = refl
 or-comm-at (x ∷ ws) zero m zero n = ap (λ (r : ℕ). r ∷ ws) (or_swap x m n)
 or-comm-at (x ∷ ws) zero m (suc k) n = refl
@@ -67,7 +67,7 @@ inserted-comm s i j = or-comm-at s (i / 64) (2 ^ (i % 64)) (j / 64) (2 ^ (j % 64
 pub length_inserted : (s : List ℕ) (i : ℕ) → length (inserted s i) ≡ length s
 length_inserted s i = length-set s (i / 64) _
 
-union-at : (a b : List ℕ) (k m : ℕ) → length a ≡ length b → by_word bit_or a (orAt b k m) ≡ orAt (by_word bit_or a b) k m
+union-at : (a b : List ℕ) (k m : ℕ) → length a ≡ length b → by_word bit_or a (or_at b k m) ≡ or_at (by_word bit_or a b) k m
 unfolding by_word
 union-at [] [] k m e = refl
 union-at [] (y ∷ b) k m e = let no : ⊥ = omega arith in absurd no
@@ -93,7 +93,7 @@ has-put s i j h = go (ℕ_discrete i j)
   where
     go : Dec (i ≡ j) → has (inserted s i) j ≡ pick (eqb i j) 1 (has s j)
     go (yes e) = ap (λ (k : ℕ). has (inserted s i) k) (sym e) ∙ has-inserted s i h ∙ sym (ap (λ (b : Bool). pick b 1 (has s j)) (eq-eqb i j e))
-    go (no ne) = has_kept s i j h (λ e. ne (sym e)) ∙ sym (ap (λ (b : Bool). pick b 1 (has s j)) (ne_eqb i j ne))
+    go (no ne) = has-kept s i j h (λ e. ne (sym e)) ∙ sym (ap (λ (b : Bool). pick b 1 (has s j)) (ne_eqb i j ne))
 
 -- ---- words
 
@@ -120,6 +120,6 @@ sum-none (suc n) = omega (arith, sum-none n)
 pub share-none : (a b : List ℕ) → length a ≡ length b → Words a → Words b → ((i : ℕ) → min (has a i) (has b i) ≡ 0) → is_empty (shared a b) ≡ true
 share-none a b e wa wb h =
     eq-eqb (size (shared a b)) 0
-    (size-has (shared a b) (λ i. subst (λ (x : ℕ). x < 2 ^ 64) (sym (byWord-at bit_and refl a b e i)) (and_lt 64 (get_or a i 0) (get_or b i 0) (wa i) (wb i)))
+    (size-has (shared a b) (λ i. subst (λ (x : ℕ). x < 2 ^ 64) (sym (by_word-at bit_and refl a b e i)) (and_lt 64 (get_or a i 0) (get_or b i 0) (wa i) (wb i)))
     ∙ sum-ext (length (shared a b) * 64) (has (shared a b)) (λ (i : ℕ). 0) (λ i l. has-shared a b e i ∙ h i)
     ∙ sum-none (length (shared a b) * 64))

@@ -3,11 +3,11 @@
 use Rattle.std.specs.Prelude.{ℕ, zero, suc, ◌^◌, ◌<◌, ◌≡◌, List, [], ◌∷◌, Bool, true, false, eqb, Float, get_or}
 use Rattle.paper.specs.Choice.{◌and◌, pick}
 use Rattle.paper.specs.Geometry.{Geo}
-use Rattle.index_memory.specs.Memory.{Ix, emptyIx, ownOkIx, faceBit, slotBytes, stored_at, floatZeros}
+use Rattle.index_memory.specs.Memory.{Ix, empty_ix, own_ok_ix, face_bit, slot_bytes, stored_at, float_zeros}
 use Rattle.bitmaps.specs.Words.{has, empty}
 use Rattle.vector.specs.Norm.{normalized}
-use Rattle.quantization.specs.Stored.{lowerBytes}
-use Rattle.adding.specs.Adding.{faceSlot, addRefusal}
+use Rattle.quantization.specs.Stored.{lower_bytes}
+use Rattle.adding.specs.Adding.{face_slot, add_refusal}
 use Rattle.order_free.specs.Order.{Addition}
 
 -- what f gives for the last addition that passes the test, and `other` if none does
@@ -18,34 +18,34 @@ last_or p f (a ∷ more) other = last_or p f more (pick (p a) (f a) other)
 module _ (g : Geo) (bs : List Float) where
   -- whether an addition is accepted: by an empty index, and so by every index of this geometry
   unfoldable pub taken : Addition → Bool
-  taken a = eqb (addRefusal g bs a.id a.v (emptyIx g) (floatZeros g.d)) 0
+  taken a = eqb (add_refusal g bs a.id a.v (empty_ix g) (float_zeros g.d)) 0
 
   -- whether it is accepted and has id i
-  abbrev pub takenAs : ℕ → Addition → Bool
-  takenAs i a = taken a and eqb a.id i
+  abbrev pub taken_as : ℕ → Addition → Bool
+  taken_as i a = taken a and eqb a.id i
 
   -- whether k is the bit that the addition sets for one of the first m bases
-  unfoldable pub faceAmong : ℕ → ℕ → Addition → Bool
-  faceAmong k zero a = false
-  faceAmong k (suc b) a = pick (eqb (faceBit g.d g.cap b (faceSlot g.d bs a.v b) a.id) k) true (faceAmong k b a)
+  unfoldable pub face_among : ℕ → ℕ → Addition → Bool
+  face_among k zero a = false
+  face_among k (suc b) a = pick (eqb (face_bit g.d g.cap b (face_slot g.d bs a.v b) a.id) k) true (face_among k b a)
 
-  abbrev pub takenAt : ℕ → Addition → Bool
-  takenAt k a = taken a and faceAmong k g.n a
+  abbrev pub taken_at : ℕ → Addition → Bool
+  taken_at k a = taken a and face_among k g.n a
 
   -- the mark of id i, bit k of the face sets, the stored bytes of id i
   abbrev pub mark_of : List Addition → ℕ → ℕ
-  mark_of xs i = last_or (takenAs i) (λ (a : Addition). 1) xs 0
+  mark_of xs i = last_or (taken_as i) (λ (a : Addition). 1) xs 0
 
-  abbrev pub faceOf : List Addition → ℕ → ℕ
-  faceOf xs k = last_or (takenAt k) (λ (a : Addition). 1) xs 0
+  abbrev pub face_of : List Addition → ℕ → ℕ
+  face_of xs k = last_or (taken_at k) (λ (a : Addition). 1) xs 0
 
   abbrev pub bytes_of : List Addition → ℕ → List ℕ
-  bytes_of xs i = last_or (takenAs i) (λ (a : Addition). lowerBytes g.mode (normalized a.v)) xs (empty (slotBytes g.d g.mode))
+  bytes_of xs i = last_or (taken_as i) (λ (a : Addition). lower_bytes g.mode (normalized a.v)) xs (empty (slot_bytes g.d g.mode))
 
   -- an index of the right lengths that holds just that (`grown-once` in proofs/: there is one such index)
   pub record Grown (xs : List Addition) (ix : Ix) : Type 0 where
-    pub lengths : ownOkIx g ix ≡ true
-    pub faces : (k : ℕ) → has ix.faces k ≡ faceOf xs k
+    pub lengths : own_ok_ix g ix ≡ true
+    pub faces : (k : ℕ) → has ix.faces k ≡ face_of xs k
     pub face-words : (q : ℕ) → get_or ix.faces q 0 < 2 ^ 64
     pub marks : (i : ℕ) → has ix.marks i ≡ mark_of xs i
     pub mark-words : (q : ℕ) → get_or ix.marks q 0 < 2 ^ 64

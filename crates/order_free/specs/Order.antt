@@ -1,10 +1,10 @@
 -- Orders of additions, and deals of them to several indexes (demand 3). Everything is said with the definitions that the contracts of
--- add_vector, new_vector_store and merge cite: addOf, emptyIx, mergeOf.
+-- add_vector, new_vector_store and merge cite: add_of, empty_ix, merge_of.
 use Rattle.std.specs.Prelude.{ℕ, ◌≡◌, List, [], ◌∷◌, ◌++◌, Float, length, true}
-use Rattle.paper.specs.Geometry.{Geo, geoOk}
-use Rattle.index_memory.specs.Memory.{Ix, emptyIx, ownOk, floatZeros}
-use Rattle.adding.specs.Adding.{addOf}
-use Rattle.merging.specs.Merging.{mergeOf}
+use Rattle.paper.specs.Geometry.{Geo, geo_ok}
+use Rattle.index_memory.specs.Memory.{Ix, empty_ix, own_ok, float_zeros}
+use Rattle.adding.specs.Adding.{add_of}
+use Rattle.merging.specs.Merging.{merge_of}
 
 -- what is added: a vector under an id
 pub record Addition : Type 0 where
@@ -30,10 +30,10 @@ WorkLent g (c ∷ cs) = (length c.work ≡ g.d) × WorkLent g cs
 module _ (g : Geo) (bs : List Float) where
   -- the answer of a call, and the index after it
   unfoldable pub answer : Call → Ix → ℕ
-  answer c ix = (addOf g bs c.what.id c.what.v ix c.work).answer
+  answer c ix = (add_of g bs c.what.id c.what.v ix c.work).answer
 
   unfoldable pub step : Call → Ix → Ix
-  step c ix = (addOf g bs c.what.id c.what.v ix c.work).ix
+  step c ix = (add_of g bs c.what.id c.what.v ix c.work).ix
 
   -- one call after another; what is refused changes nothing
   unfoldable pub run : List Call → Ix → Ix
@@ -72,30 +72,30 @@ dealt (two l r) = dealt l ++ dealt r
 module _ (g : Geo) (bs : List Float) where
   -- the index that the merges leave
   unfoldable pub built : Deal → Ix
-  built (one cs) = run g bs cs (emptyIx g)
-  built (two l r) = (mergeOf g (built l) (built r)).ix
+  built (one cs) = run g bs cs (empty_ix g)
+  built (two l r) = (merge_of g (built l) (built r)).ix
 
   -- every merge on the way answers 0
   abbrev pub AllAccepted : Deal → Type 0
   AllAccepted (one cs) = Unit
-  AllAccepted (two l r) = ((mergeOf g (built l) (built r)).answer ≡ 0) × AllAccepted l × AllAccepted r
+  AllAccepted (two l r) = ((merge_of g (built l) (built r)).answer ≡ 0) × AllAccepted l × AllAccepted r
 
 -- the calls of a list of additions, each lent zeros, and what they make of an empty index
 abbrev pub calls : Geo → List Addition → List Call
 calls g [] = []
-calls g (a ∷ more) = record { what = a; work = floatZeros g.d } ∷ calls g more
+calls g (a ∷ more) = record { what = a; work = float_zeros g.d } ∷ calls g more
 
 abbrev pub addition : ℕ → List Float → Addition
 addition id v = record { id = id; v = v }
 
 unfoldable pub filled : Geo → List Float → List Addition → Ix
-filled g bs xs = run g bs (calls g xs) (emptyIx g)
+filled g bs xs = run g bs (calls g xs) (empty_ix g)
 
 -- what filling an index asks: a good geometry, the lengths of the index, d floats of work memory. A wrong length of bases or vector, or an id
 -- too high, is an addition's refusal.
 pub record FillArgs (d n cap mode lf lm lv lw : ℕ) : Type 0 where
-  pub good : geoOk d n cap mode ≡ true
-  pub own : ownOk d n cap mode lf lm lv ≡ true
+  pub good : geo_ok d n cap mode ≡ true
+  pub own : own_ok d n cap mode lf lm lv ≡ true
   pub work : lw ≡ d
 
 pub record PairArgs (d n cap mode i j lf lm lv lf2 lm2 lv2 lw : ℕ) : Type 0 where

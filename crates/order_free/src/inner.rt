@@ -1,7 +1,7 @@
 // Indexes really made in two ways, with the promise that their memories end equal.
 ghost use Rattle.std.specs.Prelude.{◌≡◌, [], ◌∷◌, length};
 ghost use Rattle.paper.specs.Geometry.{geo};
-ghost use Rattle.index_memory.specs.Memory.{ixOf};
+ghost use Rattle.index_memory.specs.Memory.{ix_of};
 ghost use Rattle.order_free.specs.Order.{addition, filled, FillArgs, PairArgs};
 
 // Makes the index empty and adds one vector.
@@ -19,7 +19,7 @@ pub fn fill_one(
     i: usize,
 )
     requires { FillArgs d n cap mode (length faces.old) (length marks.old) (length vectors.old) (length work.old) }
-    ensures { ixOf faces.new marks.new vectors.new ≡ filled (geo d n cap mode) bases.now (addition i v.now ∷ []) }
+    ensures { ix_of faces.new marks.new vectors.new ≡ filled (geo d n cap mode) bases.now (addition i v.now ∷ []) }
 {
     index_memory::new_vector_store(faces, marks, vectors, d, n, cap, mode);
     adding::add_vector(bases, faces, marks, vectors, work, v, d, n, cap, mode, i);
@@ -42,7 +42,7 @@ pub fn fill_two(
     j: usize,
 )
     requires { FillArgs d n cap mode (length faces.old) (length marks.old) (length vectors.old) (length work.old) }
-    ensures { ixOf faces.new marks.new vectors.new ≡ filled (geo d n cap mode) bases.now (addition i v.now ∷ addition j u.now ∷ []) }
+    ensures { ix_of faces.new marks.new vectors.new ≡ filled (geo d n cap mode) bases.now (addition i v.now ∷ addition j u.now ∷ []) }
 {
     fill_one(bases, faces, marks, vectors, work, v, d, n, cap, mode, i);
     adding::add_vector(bases, faces, marks, vectors, work, u, d, n, cap, mode, j);
@@ -68,7 +68,7 @@ pub fn two_orders(
     j: usize,
 )
     requires { PairArgs d n cap mode i j (length faces.old) (length marks.old) (length vectors.old) (length faces2.old) (length marks2.old) (length vectors2.old) (length work.old) }
-    ensures { ixOf faces.new marks.new vectors.new ≡ ixOf faces2.new marks2.new vectors2.new }
+    ensures { ix_of faces.new marks.new vectors.new ≡ ix_of faces2.new marks2.new vectors2.new }
 {
     fill_two(
         bases, faces, marks, vectors, work, v, u, d, n, cap, mode, i, j,
@@ -99,7 +99,7 @@ pub fn two_deals(
     j: usize,
 ) -> u32
     requires { PairArgs d n cap mode i j (length faces.old) (length marks.old) (length vectors.old) (length faces2.old) (length marks2.old) (length vectors2.old) (length work.old) }
-    ensures { (result ≡ 0) × (ixOf faces.new marks.new vectors.new ≡ ixOf faces2.new marks2.new vectors2.new) }
+    ensures { (result ≡ 0) × (ix_of faces.new marks.new vectors.new ≡ ix_of faces2.new marks2.new vectors2.new) }
 {
     fill_one(bases, faces, marks, vectors, work, v, d, n, cap, mode, i);
     fill_one(bases, faces2, marks2, vectors2, work, u, d, n, cap, mode, j);

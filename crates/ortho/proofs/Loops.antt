@@ -6,14 +6,14 @@ use mathlib.Core.List.{List, [], ◌∷◌, ◌++◌, zip_with, append_assoc}
 use native.Mathlib.Nat.{add-sub_cancel_left, mul-le-mul_right, suc-mul}
 use lib.Dec.{eqb}
 use Rattle.paper.specs.Choice.{pick}
-use Rattle.vector.specs.Norm.{normNumber, normalized}
+use Rattle.vector.specs.Norm.{norm_number, normalized}
 use Prim.Native.Nat.{ℕ, zero, suc, ◌+◌, ◌-◌, ◌*◌, ◌<◌, ◌≤◌}
 use native.Mathlib.Numerals.{add-one}
 use native.Mathlib.Omega.{arith}
 use lib.ListN.{length, get_or, set, take, drop, replicate, length-set, take-append-drop, replicate-append-replicate}
 use lib.Seq.{drop-cons, drop-drop, drop-set-add, drop-set-lt, take-set-le, take-suc, take-suc-set, take_all}
 use lib.Ieee.{Float, nan, binary32, sub, mul}
-use Rattle.ortho.specs.Ortho.{row, lessTimes, reduced, normRow, told, and_then, pair_of, rows_of, roundOf, roundsOf}
+use Rattle.ortho.specs.Ortho.{row, less_times, reduced, norm_row, told, and_then, pair_of, rows_of, round_of, rounds_of}
 
 -- what is left to count, one less at each turn
 pub left-suc : (d k : ℕ) → k < d → d - k ≡ suc (d - (k + 1))
@@ -66,14 +66,14 @@ one_more t i j n xs h l =
     let r : drop (suc j + n) (set xs j v) ≡ drop (j + suc n) xs =
     drop-set-lt (suc j + n) xs j v (omega arith) ∙ ap (λ (z : ℕ). drop z xs) (suc-add j n) in
     let f : take (suc j) (set xs j v) ≡ take j xs ++ (v ∷ []) = take-suc-set xs j v (omega arith) in
-    let rest = lessTimes t (row (suc i) n xs) (row (suc j) n xs) in
-    ap (λ (z : List Float). take (suc j) (set xs j v) ++ (lessTimes t z (row (suc j) n (set xs j v)) ++ drop (suc j + n) (set xs j v))) p
-    ∙ ap (λ (z : List Float). take (suc j) (set xs j v) ++ (lessTimes t (row (suc i) n xs) z ++ drop (suc j + n) (set xs j v))) q
+    let rest = less_times t (row (suc i) n xs) (row (suc j) n xs) in
+    ap (λ (z : List Float). take (suc j) (set xs j v) ++ (less_times t z (row (suc j) n (set xs j v)) ++ drop (suc j + n) (set xs j v))) p
+    ∙ ap (λ (z : List Float). take (suc j) (set xs j v) ++ (less_times t (row (suc i) n xs) z ++ drop (suc j + n) (set xs j v))) q
     ∙ ap (λ (z : List Float). take (suc j) (set xs j v) ++ (rest ++ z)) r
     ∙ ap (λ (z : List Float). z ++ (rest ++ drop (j + suc n) xs)) f
     ∙ append_assoc (take j xs) (v ∷ []) (rest ++ drop (j + suc n) xs)
-    ∙ ap (λ (z : List Float). take j xs ++ (lessTimes t z (get_or xs j nan ∷ row (suc j) n xs) ++ drop (j + suc n) xs)) (sym (row_more i n xs (omega arith)))
-    ∙ ap (λ (z : List Float). take j xs ++ (lessTimes t (row i (suc n) xs) z ++ drop (j + suc n) xs)) (sym (row_more j n xs (omega arith)))
+    ∙ ap (λ (z : List Float). take j xs ++ (less_times t z (get_or xs j nan ∷ row (suc j) n xs) ++ drop (j + suc n) xs)) (sym (row_more i n xs (omega arith)))
+    ∙ ap (λ (z : List Float). take j xs ++ (less_times t (row i (suc n) xs) z ++ drop (j + suc n) xs)) (sym (row_more j n xs (omega arith)))
   where
     suc-add : (j n : ℕ) → suc j + n ≡ j + suc n
     suc-add j n = omega arith
@@ -112,10 +112,10 @@ pick-told true xs = refl
 pick-told false xs = refl
 
 -- a part that was lent, normalised, and has come back
-pub norm-row : (a d : ℕ) (xs ys : List Float) (m : ℕ) → m ≡ normNumber (take (a + d - a) (drop a xs)) → ys ≡ normalized (take (a + d - a) (drop a xs)) → normRow a d xs ≡ told (eqb m 0) (take a xs ++ (ys ++ drop (a + d - a) (drop a xs)))
-unfolding normRow
+pub norm-row : (a d : ℕ) (xs ys : List Float) (m : ℕ) → m ≡ norm_number (take (a + d - a) (drop a xs)) → ys ≡ normalized (take (a + d - a) (drop a xs)) → norm_row a d xs ≡ told (eqb m 0) (take a xs ++ (ys ++ drop (a + d - a) (drop a xs)))
+unfolding norm_row
 norm-row a d xs ys m p q =
-    rw (p, q, add-sub_cancel_left, drop-drop) (pick-told (eqb (normNumber (take d (drop a xs))) 0) (take a xs ++ (normalized (take d (drop a xs)) ++ drop (a + d) xs)))
+    rw (p, q, add-sub_cancel_left, drop-drop) (pick-told (eqb (norm_number (take d (drop a xs))) 0) (take a xs ++ (normalized (take d (drop a xs)) ++ drop (a + d) xs)))
 
 -- one row more: the code's j + 1, with d - j rows left
 module _ (d i j : ℕ) (xs : List Float) where
@@ -155,35 +155,35 @@ fill_step z out k h e = ap (λ (n : ℕ). take n (set out k z)) (add-one k) ∙ 
 -- ---- the rounds
 
 module _ (d i : ℕ) (xs : List Float) (h : i < d) where
-  pub round-step : roundOf d (d - i) i xs ≡ and_then (and_then (normRow (i * d) d xs) (rows_of d i (d - (i + 1)) (i + 1))) (roundOf d (d - (i + 1)) (i + 1))
-  unfolding roundOf
+  pub round-step : round_of d (d - i) i xs ≡ and_then (and_then (norm_row (i * d) d xs) (rows_of d i (d - (i + 1)) (i + 1))) (round_of d (d - (i + 1)) (i + 1))
+  unfolding round_of
   round-step = rw (left-suc d i h, add-one)
 
-  module _ (r : Bool) (ys : List Float) (P : normRow (i * d) d xs ≡ told r ys) where
-    pub round-fail-1 : r ≡ false → roundOf d (d - i) i xs ≡ none
+  module _ (r : Bool) (ys : List Float) (P : norm_row (i * d) d xs ≡ told r ys) where
+    pub round-fail-1 : r ≡ false → round_of d (d - i) i xs ≡ none
     round-fail-1 t = round-step ∙ rw (P, t)
 
     module _ (q : Bool) (zs : List Float) (Q : rows_of d i (d - (i + 1)) (i + 1) ys ≡ told q zs) where
-      pub round-fail-2 : r ≡ true → q ≡ false → roundOf d (d - i) i xs ≡ none
+      pub round-fail-2 : r ≡ true → q ≡ false → round_of d (d - i) i xs ≡ none
       round-fail-2 t u = round-step ∙ rw (P, t, Q, u)
 
-      pub round-more : r ≡ true → q ≡ true → roundOf d (d - i) i xs ≡ roundOf d (d - (i + 1)) (i + 1) zs
+      pub round-more : r ≡ true → q ≡ true → round_of d (d - i) i xs ≡ round_of d (d - (i + 1)) (i + 1) zs
       round-more t u = round-step ∙ rw (P, t, Q, u)
 
-pub round-end : (d i : ℕ) (xs : List Float) → d ≤ i → roundOf d (d - i) i xs ≡ some xs
-unfolding roundOf
+pub round-end : (d i : ℕ) (xs : List Float) → d ≤ i → round_of d (d - i) i xs ≡ some xs
+unfolding round_of
 round-end d i xs h = rw (left-none d i h)
 
 module _ (d n k : ℕ) (xs : List Float) where
-  module _ (h : k < n) (r : Bool) (ys : List Float) (P : roundOf d d 0 xs ≡ told r ys) where
-    pub rounds-fail : r ≡ false → roundsOf d (n - k) xs ≡ none
-    unfolding roundsOf
+  module _ (h : k < n) (r : Bool) (ys : List Float) (P : round_of d d 0 xs ≡ told r ys) where
+    pub rounds-fail : r ≡ false → rounds_of d (n - k) xs ≡ none
+    unfolding rounds_of
     rounds-fail t = rw (left-suc n k h, P, t)
 
-    pub rounds-more : r ≡ true → roundsOf d (n - k) xs ≡ roundsOf d (n - (k + 1)) ys
-    unfolding roundsOf
+    pub rounds-more : r ≡ true → rounds_of d (n - k) xs ≡ rounds_of d (n - (k + 1)) ys
+    unfolding rounds_of
     rounds-more t = rw (left-suc n k h, P, t)
 
-  pub rounds-end : n ≤ k → roundsOf d (n - k) xs ≡ some xs
-  unfolding roundsOf
+  pub rounds-end : n ≤ k → rounds_of d (n - k) xs ≡ some xs
+  unfolding rounds_of
   rounds-end h = rw (left-none n k h)

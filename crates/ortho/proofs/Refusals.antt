@@ -12,11 +12,11 @@ use lib.ListN.{length, replicate}
 use lib.Ieee.{Float}
 use Rattle.paper.specs.Choice.{◌and◌, pick}
 use Rattle.vector.specs.Fold.{zero32}
-use Rattle.vector.specs.Finite.{allFinite}
-use Rattle.ortho.specs.Ortho.{Written, written, finished, roundsOf, orthonormalized}
+use Rattle.vector.specs.Finite.{all_finite}
+use Rattle.ortho.specs.Ortho.{Written, written, finished, rounds_of, orthonormalized}
 
-pub no-round-copies : (d : ℕ) (xs ys : List Float) → 1 ≤ d → d ≤ 1024 → length xs ≡ d * d → length ys ≡ d * d → allFinite xs ≡ true → orthonormalized d 0 xs ys ≡ written 0 xs
-unfolding orthonormalized roundsOf
+pub no-round-copies : (d : ℕ) (xs ys : List Float) → 1 ≤ d → d ≤ 1024 → length xs ≡ d * d → length ys ≡ d * d → all_finite xs ≡ true → orthonormalized d 0 xs ys ≡ written 0 xs
+unfolding orthonormalized rounds_of
 no-round-copies d xs ys lo hi p q f = rw (le-leb 1 d lo, le-leb d 1024 hi, eq-eqb (length xs) (d * d) p, eq-eqb (length ys) (d * d) q, f)
 
 -- the answer, by the three tests and what the rounds gave
@@ -40,8 +40,8 @@ keeps n ys false b c o h k = refl
 module _ (d r : ℕ) (xs ys : List Float) where
   pub six-clears : (orthonormalized d r xs ys).refusal ≡ 6 → (orthonormalized d r xs ys).out ≡ replicate (d * d) zero32
   unfolding orthonormalized
-  six-clears h = clears (d * d) ys (leb 1 d and leb d 1024 and leb r 8) (eqb (length xs) (d * d) and eqb (length ys) (d * d)) (allFinite xs) (roundsOf d r xs) h
+  six-clears h = clears (d * d) ys (leb 1 d and leb d 1024 and leb r 8) (eqb (length xs) (d * d) and eqb (length ys) (d * d)) (all_finite xs) (rounds_of d r xs) h
 
   pub refused-keeps : (orthonormalized d r xs ys).refusal ≢ 0 → (orthonormalized d r xs ys).refusal ≢ 6 → (orthonormalized d r xs ys).out ≡ ys
   unfolding orthonormalized
-  refused-keeps h k = keeps (d * d) ys (leb 1 d and leb d 1024 and leb r 8) (eqb (length xs) (d * d) and eqb (length ys) (d * d)) (allFinite xs) (roundsOf d r xs) h k
+  refused-keeps h k = keeps (d * d) ys (leb 1 d and leb d 1024 and leb r 8) (eqb (length xs) (d * d) and eqb (length ys) (d * d)) (all_finite xs) (rounds_of d r xs) h k

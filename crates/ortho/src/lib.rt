@@ -3,14 +3,14 @@
 #![tactic(auto)]
 
 ghost use Rattle.std.specs.Prelude.{◌≡◌, ◌+◌, ◌*◌, ◌-◌, ◌<◌, ◌≤◌, length, replicate};
-ghost use Rattle.vector.specs.Fold.{dotOf, zero32};
-ghost use Rattle.ortho.specs.Ortho.{row, reduced, normRow, pair_of, rows_of, roundOf, roundsOf, told, written, orthonormalized};
+ghost use Rattle.vector.specs.Fold.{dot_of, zero32};
+ghost use Rattle.ortho.specs.Ortho.{row, reduced, norm_row, pair_of, rows_of, round_of, rounds_of, told, written, orthonormalized};
 ghost use Rattle.ortho.specs.Laws.{Laws};
 
 // Normalises the row at a. False where that is refused.
 fn normalize_row(out: &mut [f32], a: usize, d: usize) -> bool
     requires { a + d ≤ length out.old }
-    ensures { normRow a d out.old ≡ told result out.new }
+    ensures { norm_row a d out.old ≡ told result out.new }
 {
     let e = a + d;
     vector::normalize(&mut out[a..e]) == 0
@@ -19,7 +19,7 @@ fn normalize_row(out: &mut [f32], a: usize, d: usize) -> bool
 // The dot product of the rows at a and b.
 fn dot_rows(out: &[f32], a: usize, b: usize, d: usize) -> f32
     requires { (a + d ≤ length out.now) × (b + d ≤ length out.now) }
-    ensures { result ≡ dotOf (row a d out.now) (row b d out.now) }
+    ensures { result ≡ dot_of (row a d out.now) (row b d out.now) }
 {
     let e = a + d;
     let f = b + d;
@@ -67,7 +67,7 @@ fn rows(out: &mut [f32], d: usize, i: usize) -> bool
 // One round over all rows.
 fn round(out: &mut [f32], d: usize) -> bool
     requires { length out.old ≡ d * d }
-    ensures { roundOf d d 0 out.old ≡ told result out.new }
+    ensures { round_of d d 0 out.old ≡ told result out.new }
 {
     let mut i = 0;
     while i < d {
@@ -85,7 +85,7 @@ fn round(out: &mut [f32], d: usize) -> bool
 // The rounds, one after the other.
 fn all_rounds(out: &mut [f32], d: usize, n: usize) -> bool
     requires { length out.old ≡ d * d }
-    ensures { roundsOf d n out.old ≡ told result out.new }
+    ensures { rounds_of d n out.old ≡ told result out.new }
 {
     let mut k = 0;
     while k < n {

@@ -14,49 +14,49 @@ abbrev pub geo : ℕ → ℕ → ℕ → ℕ → Geo
 geo d n cap mode = record { d = d; n = n; cap = cap; mode = mode }
 
 -- a capacity is a multiple of 64 from 64 to 65,536
-unfoldable pub capOk : ℕ → Bool
-capOk cap = leb 64 cap and leb cap 65536 and eqb (cap % 64) 0
+unfoldable pub cap_ok : ℕ → Bool
+cap_ok cap = leb 64 cap and leb cap 65536 and eqb (cap % 64) 0
 
 -- the store modes: 0, four bytes a component; 1, two bytes (bf16)
-unfoldable pub modeOk : ℕ → Bool
-modeOk mode = leb mode 1
+unfoldable pub mode_ok : ℕ → Bool
+mode_ok mode = leb mode 1
 
 -- d from 1 to 1,024, n from 1 to 32, a good capacity, a known mode
-unfoldable pub geoOk : ℕ → ℕ → ℕ → ℕ → Bool
-geoOk d n cap mode = leb 1 d and leb d 1024 and leb 1 n and leb n 32 and capOk cap and modeOk mode
+unfoldable pub geo_ok : ℕ → ℕ → ℕ → ℕ → Bool
+geo_ok d n cap mode = leb 1 d and leb d 1024 and leb 1 n and leb n 32 and cap_ok cap and mode_ok mode
 
 -- bytes a component
-unfoldable pub compSize : ℕ → ℕ
-compSize mode = pick (eqb mode 0) 4 2
+unfoldable pub comp_size : ℕ → ℕ
+comp_size mode = pick (eqb mode 0) 4 2
 
 -- W: words of 64 ids in one set
-abbrev pub setWords : ℕ → ℕ
-setWords cap = cap / 64
+abbrev pub set_words : ℕ → ℕ
+set_words cap = cap / 64
 
 -- the floats of n bases of d vectors of d components
-abbrev pub basesLen : ℕ → ℕ → ℕ
-basesLen d n = n * (d * d)
+abbrev pub bases_len : ℕ → ℕ → ℕ
+bases_len d n = n * (d * d)
 
 -- the words of n times 2d face sets
-abbrev pub faceWords : ℕ → ℕ → ℕ → ℕ
-faceWords d n cap = n * (2 * d) * setWords cap
+abbrev pub face_words : ℕ → ℕ → ℕ → ℕ
+face_words d n cap = n * (2 * d) * set_words cap
 
 -- the bytes of C slots of d components
-abbrev pub vectorBytes : ℕ → ℕ → ℕ → ℕ
-vectorBytes d cap mode = cap * (compSize mode * d)
+abbrev pub vector_bytes : ℕ → ℕ → ℕ → ℕ
+vector_bytes d cap mode = cap * (comp_size mode * d)
 
 -- what each memory is to be, given the geometry; all 0 for one that is refused
-unfoldable pub lengthsOf : Geo → Lengths
-lengthsOf g =
-    pick (geoOk g.d g.n g.cap g.mode)
+unfoldable pub lengths_of : Geo → Lengths
+lengths_of g =
+    pick (geo_ok g.d g.n g.cap g.mode)
     (record {
-      bases = basesLen g.d g.n;
-      faces = faceWords g.d g.n g.cap;
-      marks = setWords g.cap;
-      vectors = vectorBytes g.d g.cap g.mode;
+      bases = bases_len g.d g.n;
+      faces = face_words g.d g.n g.cap;
+      marks = set_words g.cap;
+      vectors = vector_bytes g.d g.cap g.mode;
       floats = g.d;
-      layers = g.n * setWords g.cap;
-      set = setWords g.cap;
+      layers = g.n * set_words g.cap;
+      set = set_words g.cap;
     })
     (record { bases = 0; faces = 0; marks = 0; vectors = 0; floats = 0; layers = 0; set = 0 })
 
@@ -69,7 +69,7 @@ pub record GeoFacts (d n cap mode : ℕ) : Type 0 where
   pub cap-low : 64 ≤ cap
   pub cap-high : cap ≤ 65536
   pub cap-even : cap % 64 ≡ 0
-  pub mode-ok : modeOk mode ≡ true
+  pub mode-ok : mode_ok mode ≡ true
 
 -- what a good capacity gives
 pub record CapFacts (cap : ℕ) : Type 0 where

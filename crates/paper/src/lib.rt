@@ -1,6 +1,6 @@
 // What every crate of the index shares: the refusal numbers, the geometry and its test, and the length of each lent memory.
 ghost use Rattle.std.specs.Prelude.{◌≡◌};
-ghost use Rattle.paper.specs.Geometry.{capOk, modeOk, geoOk, compSize, geo, lengthsOf};
+ghost use Rattle.paper.specs.Geometry.{cap_ok, mode_ok, geo_ok, comp_size, geo, lengths_of};
 
 pub mod inner;
 
@@ -49,7 +49,7 @@ pub struct Lengths {
 
 // Whether the capacity is a multiple of 64 from 64 to 65,536.
 pub fn capacity_ok(cap: usize) -> bool
-    ensures { result ≡ capOk cap }
+    ensures { result ≡ cap_ok cap }
 {
     if cap < 64 {
         return false;
@@ -62,14 +62,14 @@ pub fn capacity_ok(cap: usize) -> bool
 
 // Whether the store mode is known.
 pub fn mode_ok(mode: usize) -> bool
-    ensures { result ≡ modeOk mode }
+    ensures { result ≡ mode_ok mode }
 {
     mode <= 1
 }
 
 // Whether dimensions, bases, capacity and mode are all in range.
 pub fn geometry_ok(d: usize, n: usize, cap: usize, mode: usize) -> bool
-    ensures { result ≡ geoOk d n cap mode }
+    ensures { result ≡ geo_ok d n cap mode }
 {
     if d < 1 {
         return false;
@@ -91,14 +91,14 @@ pub fn geometry_ok(d: usize, n: usize, cap: usize, mode: usize) -> bool
 
 // The bytes of one stored component.
 pub fn component_size(mode: usize) -> usize
-    ensures { result ≡ compSize mode }
+    ensures { result ≡ comp_size mode }
 {
     if mode == 0 { 4 } else { 2 }
 }
 
 // The length of each memory that the calls of an index are lent; all 0 for a geometry that they refuse.
 pub fn lengths_for(d: usize, n: usize, cap: usize, mode: usize) -> Lengths
-    ensures { result ≡ lengthsOf (geo d n cap mode) }
+    ensures { result ≡ lengths_of (geo d n cap mode) }
 {
     if !geometry_ok(d, n, cap, mode) {
         return Lengths {

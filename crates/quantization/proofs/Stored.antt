@@ -13,22 +13,22 @@ use lib.Ieee.{Float, nan, binary32, to_bits, of_bits, fits, nan_bits}
 use lib.Ieee.Bits.{of_bits-to_bits, to_bits-lt, of_bits-fits, to_bits-of_bits, nan_bits_is}
 use borrow.Author.Tests.{eq-eqb, ne_eqb}
 use Rattle.paper.specs.Choice.{pick}
-use Rattle.paper.specs.Geometry.{compSize}
+use Rattle.paper.specs.Geometry.{comp_size}
 use Rattle.sqrt.proofs.Bits.{nan-bits, reads-nan, reads-number}
 use Rattle.quantization.specs.Bf16.{lowered, widened}
-use Rattle.quantization.specs.Stored.{encoded, decoded, restored, compBytes, lowerBytes, componentAt, components, Fit}
+use Rattle.quantization.specs.Stored.{encoded, decoded, restored, comp_bytes, lower_bytes, component_at, components, Fit}
 use Rattle.quantization.proofs.Sets.{sets-append}
 use Rattle.quantization.proofs.Bytes.{length-le, word-drop, word-take, word_below, word-above, word-put}
 use Rattle.quantization.proofs.Halves.{lowered-lt, half_back}
 
 -- ---- the two modes
 
-pub comp-four : (mode : ℕ) → mode ≡ 0 → compSize mode ≡ 4
-unfolding compSize
+pub comp-four : (mode : ℕ) → mode ≡ 0 → comp_size mode ≡ 4
+unfolding comp_size
 comp-four mode e = simp (eq-eqb mode 0 e)
 
-pub comp-two : (mode : ℕ) → (mode ≡ 0 → ⊥) → compSize mode ≡ 2
-unfolding compSize
+pub comp-two : (mode : ℕ) → (mode ≡ 0 → ⊥) → comp_size mode ≡ 2
+unfolding comp_size
 comp-two mode e = simp (ne_eqb mode 0 e)
 
 pub encoded-four : (mode : ℕ) (x : Float) → mode ≡ 0 → encoded mode x ≡ to_bits binary32 x
@@ -48,59 +48,59 @@ unfolding decoded
 decoded-two mode n e = simp (ne_eqb mode 0 e)
 
 -- what is stored has as many bytes as the component
-pub encoded-lt : (mode : ℕ) (x : Float) → T (fits binary32 x) → encoded mode x < 256 ^ compSize mode
+pub encoded-lt : (mode : ℕ) (x : Float) → T (fits binary32 x) → encoded mode x < 256 ^ comp_size mode
 encoded-lt mode x f = go (dec_lt mode 1)
   where
     bits : to_bits binary32 x < 4294967296
     bits = to_bits-lt binary32 x f
 
-    go : Dec (mode < 1) → encoded mode x < 256 ^ compSize mode
+    go : Dec (mode < 1) → encoded mode x < 256 ^ comp_size mode
     go (yes l) = let e : mode ≡ 0 = omega arith in rw (encoded-four mode x e, comp-four mode e) bits
     go (no l) = let n : mode ≡ 0 → ⊥ = λ e. omega arith in rw (encoded-two mode x n, comp-two mode n) (lowered-lt (to_bits binary32 x) bits)
 
 -- ---- sizes
 
-pub length-comp : (mode : ℕ) (x : Float) → length (compBytes mode x) ≡ compSize mode
-unfolding compBytes
-length-comp mode x = length-le (compSize mode) (encoded mode x)
+pub length-comp : (mode : ℕ) (x : Float) → length (comp_bytes mode x) ≡ comp_size mode
+unfolding comp_bytes
+length-comp mode x = length-le (comp_size mode) (encoded mode x)
 
-pub length-lower : (mode : ℕ) (xs : List Float) → length (lowerBytes mode xs) ≡ length xs * compSize mode
-unfolding lowerBytes
+pub length-lower : (mode : ℕ) (xs : List Float) → length (lower_bytes mode xs) ≡ length xs * comp_size mode
+unfolding lower_bytes
 length-lower mode [] = omega arith
 length-lower mode (x ∷ xs) =
-    length-append (compBytes mode x) (lowerBytes mode xs)
-    ∙ (omega (arith, length-comp mode x, length-lower mode xs, suc-mul (length xs) (compSize mode)))
+    length-append (comp_bytes mode x) (lower_bytes mode xs)
+    ∙ (omega (arith, length-comp mode x, length-lower mode xs, suc-mul (length xs) (comp_size mode)))
 
 pub length-components : (mode : ℕ) (s : List ℕ) (at n : ℕ) → length (components mode s at n) ≡ n
 unfolding components
 length-components mode s at zero = refl
-length-components mode s at (suc n) = ap suc (length-components mode s (at + compSize mode) n)
+length-components mode s at (suc n) = ap suc (length-components mode s (at + comp_size mode) n)
 
 -- ---- one component
 
 module _ (mode : ℕ) (s : List ℕ) where
   -- of a part of the bytes
-  pub comp-drop : (k at : ℕ) → componentAt mode (drop k s) at ≡ componentAt mode s (k + at)
-  unfolding componentAt
-  comp-drop k at = ap (decoded mode) (word-drop s k at (compSize mode))
+  pub comp-drop : (k at : ℕ) → component_at mode (drop k s) at ≡ component_at mode s (k + at)
+  unfolding component_at
+  comp-drop k at = ap (decoded mode) (word-drop s k at (comp_size mode))
 
-  pub comp-take : (k at : ℕ) → at + compSize mode ≤ k → componentAt mode (take k s) at ≡ componentAt mode s at
-  unfolding componentAt
-  comp-take k at h = ap (decoded mode) (word-take s k at (compSize mode) h)
+  pub comp-take : (k at : ℕ) → at + comp_size mode ≤ k → component_at mode (take k s) at ≡ component_at mode s at
+  unfolding component_at
+  comp-take k at h = ap (decoded mode) (word-take s k at (comp_size mode) h)
 
   -- stores elsewhere leave it alone
-  pub comp-below : (vs : List ℕ) (i at : ℕ) → at + compSize mode ≤ i → componentAt mode (sets s i vs) at ≡ componentAt mode s at
-  unfolding componentAt
-  comp-below vs i at h = ap (decoded mode) (word_below s vs i at (compSize mode) h)
+  pub comp-below : (vs : List ℕ) (i at : ℕ) → at + comp_size mode ≤ i → component_at mode (sets s i vs) at ≡ component_at mode s at
+  unfolding component_at
+  comp-below vs i at h = ap (decoded mode) (word_below s vs i at (comp_size mode) h)
 
-  pub comp-above : (vs : List ℕ) (i at : ℕ) → i + length vs ≤ at → componentAt mode (sets s i vs) at ≡ componentAt mode s at
-  unfolding componentAt
-  comp-above vs i at h = ap (decoded mode) (word-above s vs i at (compSize mode) h)
+  pub comp-above : (vs : List ℕ) (i at : ℕ) → i + length vs ≤ at → component_at mode (sets s i vs) at ≡ component_at mode s at
+  unfolding component_at
+  comp-above vs i at h = ap (decoded mode) (word-above s vs i at (comp_size mode) h)
 
   -- a stored component is read as what the mode makes of it
-  pub comp-back : (at : ℕ) (x : Float) → T (fits binary32 x) → at + compSize mode ≤ length s → componentAt mode (sets s at (compBytes mode x)) at ≡ restored mode x
-  unfolding componentAt compBytes restored
-  comp-back at x f h = ap (decoded mode) (word-put s at (compSize mode) (encoded mode x) h (encoded-lt mode x f))
+  pub comp-back : (at : ℕ) (x : Float) → T (fits binary32 x) → at + comp_size mode ≤ length s → component_at mode (sets s at (comp_bytes mode x)) at ≡ restored mode x
+  unfolding component_at comp_bytes restored
+  comp-back at x f h = ap (decoded mode) (word-put s at (comp_size mode) (encoded mode x) h (encoded-lt mode x f))
 
 -- ---- runs of components
 
@@ -109,39 +109,39 @@ pub components-none : (mode : ℕ) (s : List ℕ) (at : ℕ) → components mode
 unfolding components
 components-none mode s at = refl
 
-pub components-step : (mode : ℕ) (s : List ℕ) (at n : ℕ) → components mode s at (suc n) ≡ componentAt mode s at ∷ components mode s (at + compSize mode) n
+pub components-step : (mode : ℕ) (s : List ℕ) (at n : ℕ) → components mode s at (suc n) ≡ component_at mode s at ∷ components mode s (at + comp_size mode) n
 unfolding components
 components-step mode s at n = refl
 
 -- the i-th of them
-pub components-at : (mode : ℕ) (s : List ℕ) (at n i : ℕ) → i < n → get_or (components mode s at n) i nan ≡ componentAt mode s (at + i * compSize mode)
+pub components-at : (mode : ℕ) (s : List ℕ) (at n i : ℕ) → i < n → get_or (components mode s at n) i nan ≡ component_at mode s (at + i * comp_size mode)
 unfolding components
 components-at mode s at zero i h = absurd (omega arith)
-components-at mode s at (suc n) zero h = let e : at ≡ at + 0 * compSize mode = omega arith in ap (componentAt mode s) e
+components-at mode s at (suc n) zero h = let e : at ≡ at + 0 * comp_size mode = omega arith in ap (component_at mode s) e
 components-at mode s at (suc n) (suc i) h =
-    let e : at + compSize mode + i * compSize mode ≡ at + suc i * compSize mode = omega (arith, suc-mul i (compSize mode)) in
-    components-at mode s (at + compSize mode) n i (omega arith) ∙ ap (componentAt mode s) e
+    let e : at + comp_size mode + i * comp_size mode ≡ at + suc i * comp_size mode = omega (arith, suc-mul i (comp_size mode)) in
+    components-at mode s (at + comp_size mode) n i (omega arith) ∙ ap (component_at mode s) e
 
 -- bytes that read the same, component by component, are the same run
 pub components-same : (mode : ℕ) (s t : List ℕ) (at to n : ℕ)
-    → ((i : ℕ) → i < n → componentAt mode s (at + i * compSize mode) ≡ componentAt mode t (to + i * compSize mode)) → components mode s at n ≡ components mode t to n
+    → ((i : ℕ) → i < n → component_at mode s (at + i * comp_size mode) ≡ component_at mode t (to + i * comp_size mode)) → components mode s at n ≡ components mode t to n
 unfolding components
 components-same mode s t at to zero h = refl
 components-same mode s t at to (suc n) h =
-    let a : at + 0 * compSize mode ≡ at = omega arith in
-    let b : to + 0 * compSize mode ≡ to = omega arith in
-    let here : componentAt mode s at ≡ componentAt mode t to = ap (componentAt mode s) (sym a) ∙ h 0 (omega arith) ∙ ap (componentAt mode t) b in
-    let rest : components mode s (at + compSize mode) n ≡ components mode t (to + compSize mode) n =
-    components-same mode s t (at + compSize mode) (to + compSize mode) n
+    let a : at + 0 * comp_size mode ≡ at = omega arith in
+    let b : to + 0 * comp_size mode ≡ to = omega arith in
+    let here : component_at mode s at ≡ component_at mode t to = ap (component_at mode s) (sym a) ∙ h 0 (omega arith) ∙ ap (component_at mode t) b in
+    let rest : components mode s (at + comp_size mode) n ≡ components mode t (to + comp_size mode) n =
+    components-same mode s t (at + comp_size mode) (to + comp_size mode) n
     (λ i l.
-    let e : at + compSize mode + i * compSize mode ≡ at + suc i * compSize mode = omega (arith, suc-mul i (compSize mode)) in
-    let f : to + suc i * compSize mode ≡ to + compSize mode + i * compSize mode = omega (arith, suc-mul i (compSize mode)) in
-    ap (componentAt mode s) e ∙ h (suc i) (omega arith) ∙ ap (componentAt mode t) f) in
+    let e : at + comp_size mode + i * comp_size mode ≡ at + suc i * comp_size mode = omega (arith, suc-mul i (comp_size mode)) in
+    let f : to + suc i * comp_size mode ≡ to + comp_size mode + i * comp_size mode = omega (arith, suc-mul i (comp_size mode)) in
+    ap (component_at mode s) e ∙ h (suc i) (omega arith) ∙ ap (component_at mode t) f) in
     rw (here, rest)
 
 -- component i of n has room before the run's end
-pub comp-room : (mode i n : ℕ) → i < n → i * compSize mode + compSize mode ≤ n * compSize mode
-comp-room mode i n h = subst (λ (x : ℕ). x ≤ n * compSize mode) (suc-mul i (compSize mode)) (le-times (compSize mode) (suc i) n h)
+pub comp-room : (mode i n : ℕ) → i < n → i * comp_size mode + comp_size mode ≤ n * comp_size mode
+comp-room mode i n h = subst (λ (x : ℕ). x ≤ n * comp_size mode) (suc-mul i (comp_size mode)) (le-times (comp_size mode) (suc i) n h)
   where
     le-times : (w a b : ℕ) → a ≤ b → a * w ≤ b * w
     le-times w a b l = mul-le-mul_right w l
@@ -150,36 +150,36 @@ comp-room mode i n h = subst (λ (x : ℕ). x ≤ n * compSize mode) (suc-mul i 
 pub components-drop : (mode : ℕ) (s : List ℕ) (k at n : ℕ) → components mode (drop k s) at n ≡ components mode s (k + at) n
 components-drop mode s k at n =
     components-same mode (drop k s) s at (k + at) n
-    (λ i l. let e : k + (at + i * compSize mode) ≡ k + at + i * compSize mode = omega arith in comp-drop mode s k (at + i * compSize mode) ∙ ap (componentAt mode s) e)
+    (λ i l. let e : k + (at + i * comp_size mode) ≡ k + at + i * comp_size mode = omega arith in comp-drop mode s k (at + i * comp_size mode) ∙ ap (component_at mode s) e)
 
-pub components-take : (mode : ℕ) (s : List ℕ) (k at n : ℕ) → at + n * compSize mode ≤ k → components mode (take k s) at n ≡ components mode s at n
+pub components-take : (mode : ℕ) (s : List ℕ) (k at n : ℕ) → at + n * comp_size mode ≤ k → components mode (take k s) at n ≡ components mode s at n
 components-take mode s k at n h =
-    components-same mode (take k s) s at at n (λ i l. comp-take mode s k (at + i * compSize mode) (omega (arith, comp-room mode i n l)))
+    components-same mode (take k s) s at at n (λ i l. comp-take mode s k (at + i * comp_size mode) (omega (arith, comp-room mode i n l)))
 
 -- stores elsewhere leave them alone
-pub components-below : (mode : ℕ) (s vs : List ℕ) (i at n : ℕ) → at + n * compSize mode ≤ i → components mode (sets s i vs) at n ≡ components mode s at n
+pub components-below : (mode : ℕ) (s vs : List ℕ) (i at n : ℕ) → at + n * comp_size mode ≤ i → components mode (sets s i vs) at n ≡ components mode s at n
 components-below mode s vs i at n h =
-    components-same mode (sets s i vs) s at at n (λ j l. comp-below mode s vs i (at + j * compSize mode) (omega (arith, comp-room mode j n l)))
+    components-same mode (sets s i vs) s at at n (λ j l. comp-below mode s vs i (at + j * comp_size mode) (omega (arith, comp-room mode j n l)))
 
 pub components-above : (mode : ℕ) (s vs : List ℕ) (i at n : ℕ) → i + length vs ≤ at → components mode (sets s i vs) at n ≡ components mode s at n
-components-above mode s vs i at n h = components-same mode (sets s i vs) s at at n (λ j l. comp-above mode s vs i (at + j * compSize mode) (omega arith))
+components-above mode s vs i at n h = components-same mode (sets s i vs) s at at n (λ j l. comp-above mode s vs i (at + j * comp_size mode) (omega arith))
 
 -- a stored vector is read as what the mode makes of each component
-pub components-back : (mode : ℕ) (s : List ℕ) (at : ℕ) (xs : List Float) → Fit xs → at + length xs * compSize mode ≤ length s
-    → components mode (sets s at (lowerBytes mode xs)) at (length xs) ≡ map (restored mode) xs
-unfolding components lowerBytes
+pub components-back : (mode : ℕ) (s : List ℕ) (at : ℕ) (xs : List Float) → Fit xs → at + length xs * comp_size mode ≤ length s
+    → components mode (sets s at (lower_bytes mode xs)) at (length xs) ≡ map (restored mode) xs
+unfolding components lower_bytes
 components-back mode s at [] f h = refl
 components-back mode s at (x ∷ xs) f h =
-    let w = compSize mode in
+    let w = comp_size mode in
     let m : suc (length xs) * w ≡ length xs * w + w = suc-mul (length xs) w in
-    let t = sets s at (compBytes mode x) in
-    let k : length t ≡ length s = length-sets s at (compBytes mode x) in
-    let c : length (compBytes mode x) ≡ w = length-comp mode x in
-    let e : sets s at (compBytes mode x ++ lowerBytes mode xs) ≡ sets t (at + w) (lowerBytes mode xs) =
-    sets-append s (compBytes mode x) (lowerBytes mode xs) at ∙ ap (λ (n : ℕ). sets t (at + n) (lowerBytes mode xs)) c in
-    let here : componentAt mode (sets t (at + w) (lowerBytes mode xs)) at ≡ restored mode x =
-    comp-below mode t (lowerBytes mode xs) (at + w) at (omega arith) ∙ comp-back mode s at x (f 0) (omega arith) in
-    let rest : components mode (sets t (at + w) (lowerBytes mode xs)) (at + w) (length xs) ≡ map (restored mode) xs =
+    let t = sets s at (comp_bytes mode x) in
+    let k : length t ≡ length s = length-sets s at (comp_bytes mode x) in
+    let c : length (comp_bytes mode x) ≡ w = length-comp mode x in
+    let e : sets s at (comp_bytes mode x ++ lower_bytes mode xs) ≡ sets t (at + w) (lower_bytes mode xs) =
+    sets-append s (comp_bytes mode x) (lower_bytes mode xs) at ∙ ap (λ (n : ℕ). sets t (at + n) (lower_bytes mode xs)) c in
+    let here : component_at mode (sets t (at + w) (lower_bytes mode xs)) at ≡ restored mode x =
+    comp-below mode t (lower_bytes mode xs) (at + w) at (omega arith) ∙ comp-back mode s at x (f 0) (omega arith) in
+    let rest : components mode (sets t (at + w) (lower_bytes mode xs)) (at + w) (length xs) ≡ map (restored mode) xs =
     components-back mode t (at + w) xs (λ i. f (suc i)) (omega arith) in
     ap (λ (b : List ℕ). components mode b at (suc (length xs))) e ∙ rw (here, rest)
 

@@ -7,6 +7,6 @@ le_bytes zero n = []
 le_bytes (suc size) n = n % 256 ∷ le_bytes size (n / 256)
 
 -- the number that the `size` bytes from `at` on stand for
-unfoldable pub leWord : List ℕ → ℕ → ℕ → ℕ
-leWord s at zero = 0
-leWord s at (suc size) = get_or s at 0 + 256 * leWord s (at + 1) size
+unfoldable pub le_word : List ℕ → ℕ → ℕ → ℕ
+le_word s at zero = 0
+le_word s at (suc size) = get_or s at 0 + 256 * le_word s (at + 1) size

@@ -3,8 +3,8 @@
 -- what was written.
 use Rattle.std.specs.Prelude.{List, ◌++◌, ℕ, ◌*◌, ◌/◌, ◌%◌, leb, eqb, length, drop, Float}
 use Rattle.paper.specs.Choice.{pick, refuse}
-use Rattle.paper.specs.Geometry.{modeOk, compSize}
-use Rattle.quantization.specs.Stored.{lowerBytes, components}
+use Rattle.paper.specs.Geometry.{mode_ok, comp_size}
+use Rattle.quantization.specs.Stored.{lower_bytes, components}
 
 pub record Marshalled : Type 0 where
   pub answer : ℕ
@@ -14,13 +14,13 @@ abbrev pub marshalled : ℕ → List ℕ → Marshalled
 marshalled answer array = record { answer = answer; array = array }
 
 -- the target has to have room for every component
-unfoldable pub marshalRefusal : ℕ → List Float → List ℕ → ℕ
-marshalRefusal mode v array = refuse 1 (modeOk mode) (refuse 2 (leb (length v * compSize mode) (length array)) 0)
+unfoldable pub marshal_refusal : ℕ → List Float → List ℕ → ℕ
+marshal_refusal mode v array = refuse 1 (mode_ok mode) (refuse 2 (leb (length v * comp_size mode) (length array)) 0)
 
-unfoldable pub marshalOf : ℕ → List Float → List ℕ → Marshalled
-marshalOf mode v array =
-    marshalled (marshalRefusal mode v array)
-    (pick (eqb (marshalRefusal mode v array) 0) (lowerBytes mode v ++ drop (length v * compSize mode) array) array)
+unfoldable pub marshal_of : ℕ → List Float → List ℕ → Marshalled
+marshal_of mode v array =
+    marshalled (marshal_refusal mode v array)
+    (pick (eqb (marshal_refusal mode v array) 0) (lower_bytes mode v ++ drop (length v * comp_size mode) array) array)
 
 pub record Unmarshalled : Type 0 where
   pub answer : ℕ
@@ -30,13 +30,13 @@ abbrev pub unmarshalled : ℕ → List Float → Unmarshalled
 unmarshalled answer out = record { answer = answer; out = out }
 
 -- the bytes have to be whole components, and the target to have room for every one
-unfoldable pub unmarshalRefusal : ℕ → List ℕ → List Float → ℕ
-unmarshalRefusal mode array out =
-    refuse 1 (modeOk mode) (refuse 2 (eqb (length array % compSize mode) 0) (refuse 2 (leb (length array / compSize mode) (length out)) 0))
+unfoldable pub unmarshal_refusal : ℕ → List ℕ → List Float → ℕ
+unmarshal_refusal mode array out =
+    refuse 1 (mode_ok mode) (refuse 2 (eqb (length array % comp_size mode) 0) (refuse 2 (leb (length array / comp_size mode) (length out)) 0))
 
-unfoldable pub unmarshalOf : ℕ → List ℕ → List Float → Unmarshalled
-unmarshalOf mode array out =
-    unmarshalled (unmarshalRefusal mode array out)
-    (pick (eqb (unmarshalRefusal mode array out) 0)
-    (components mode array 0 (length array / compSize mode) ++ drop (length array / compSize mode) out)
+unfoldable pub unmarshal_of : ℕ → List ℕ → List Float → Unmarshalled
+unmarshal_of mode array out =
+    unmarshalled (unmarshal_refusal mode array out)
+    (pick (eqb (unmarshal_refusal mode array out) 0)
+    (components mode array 0 (length array / comp_size mode) ++ drop (length array / comp_size mode) out)
     out)

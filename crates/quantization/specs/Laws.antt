@@ -5,11 +5,11 @@ use Rattle.std.proofs.lemmas.List.Edits.{sets}
 use Rattle.std.specs.Float.{binary32}
 use Rattle.std.specs.Float.Ieee.{fits, nan_bits, of_bits, to_bits}
 use Rattle.paper.specs.Choice.{pick}
-use Rattle.paper.specs.Geometry.{modeOk, compSize}
+use Rattle.paper.specs.Geometry.{mode_ok, comp_size}
 use Rattle.quantization.specs.Bf16.{lowered, widened, Nearest}
-use Rattle.quantization.specs.Bytes.{le_bytes, leWord}
-use Rattle.quantization.specs.Stored.{restored, compBytes, lowerBytes, componentAt, components, Fit}
-use Rattle.quantization.specs.Copies.{marshalOf, unmarshalled, unmarshalOf}
+use Rattle.quantization.specs.Bytes.{le_bytes, le_word}
+use Rattle.quantization.specs.Stored.{restored, comp_bytes, lower_bytes, component_at, components, Fit}
+use Rattle.quantization.specs.Copies.{marshal_of, unmarshalled, unmarshal_of}
 
 pub record Laws : Type 0 where
   -- lowering gives the nearest half of either sign, a tie the even one, for every pattern but a NaN's; and nothing else is the nearest
@@ -20,17 +20,17 @@ pub record Laws : Type 0 where
   -- a half that is widened and lowered again comes back; a NaN's with bit 0040 set, which a quiet one has anyway
   pub lowered-widened : (h : ℕ) → lowered (widened h) ≡ pick (nan_bits binary32 (widened h)) (bit_or h 0x40) h
   -- a whole number that was written as bytes is read
-  pub word-put : (s : List ℕ) (at size n : ℕ) → at + size ≤ length s → n < 256 ^ size → leWord (sets s at (le_bytes size n)) at size ≡ n
+  pub word-put : (s : List ℕ) (at size n : ℕ) → at + size ≤ length s → n < 256 ^ size → le_word (sets s at (le_bytes size n)) at size ≡ n
   -- a stored component is read as what the mode makes of it, and so is a stored vector
-  pub component-back : (mode : ℕ) (s : List ℕ) (at : ℕ) (x : Float) → T (fits binary32 x) → at + compSize mode ≤ length s
-      → componentAt mode (sets s at (compBytes mode x)) at ≡ restored mode x
-  pub components-back : (mode : ℕ) (s : List ℕ) (at : ℕ) (xs : List Float) → Fit xs → at + length xs * compSize mode ≤ length s
-      → components mode (sets s at (lowerBytes mode xs)) at (length xs) ≡ map (restored mode) xs
+  pub component-back : (mode : ℕ) (s : List ℕ) (at : ℕ) (x : Float) → T (fits binary32 x) → at + comp_size mode ≤ length s
+      → component_at mode (sets s at (comp_bytes mode x)) at ≡ restored mode x
+  pub components-back : (mode : ℕ) (s : List ℕ) (at : ℕ) (xs : List Float) → Fit xs → at + length xs * comp_size mode ≤ length s
+      → components mode (sets s at (lower_bytes mode xs)) at (length xs) ≡ map (restored mode) xs
   -- that is itself in mode 0, and its bf16's value in any other; stored again it stays as it is
   pub restored-four : (mode : ℕ) (x : Float) → mode ≡ 0 → T (fits binary32 x) → restored mode x ≡ x
   pub restored-two : (mode : ℕ) (x : Float) → (mode ≡ 0 → ⊥) → restored mode x ≡ of_bits binary32 (widened (lowered (to_bits binary32 x)))
   pub restored-again : (mode : ℕ) (x : Float) → T (fits binary32 x) → restored mode (restored mode x) ≡ restored mode x
   -- after copying out into an array with room, reading its front gives what the mode makes of each component, and keeps the components beyond
-  pub read_back : (mode : ℕ) (v : List Float) → modeOk mode ≡ true → (out : List Float) → Fit v → length v ≤ length out
-      → (s : List ℕ) → length v * compSize mode ≤ length s
-      → unmarshalOf mode (take (length v * compSize mode) (marshalOf mode v s).array) out ≡ unmarshalled 0 (map (restored mode) v ++ drop (length v) out)
+  pub read-back : (mode : ℕ) (v : List Float) → mode_ok mode ≡ true → (out : List Float) → Fit v → length v ≤ length out
+      → (s : List ℕ) → length v * comp_size mode ≤ length s
+      → unmarshal_of mode (take (length v * comp_size mode) (marshal_of mode v s).array) out ≡ unmarshalled 0 (map (restored mode) v ++ drop (length v) out)

@@ -4,9 +4,9 @@ use Rattle.std.specs.Prelude.{List, [], ◌∷◌, ◌++◌, ℕ, zero, suc, ◌
 use Rattle.std.specs.Float.{nan, binary32}
 use Rattle.std.specs.Float.Ieee.{to_bits, of_bits, fits}
 use Rattle.paper.specs.Choice.{pick}
-use Rattle.paper.specs.Geometry.{compSize}
+use Rattle.paper.specs.Geometry.{comp_size}
 use Rattle.quantization.specs.Bf16.{lowered, widened}
-use Rattle.quantization.specs.Bytes.{le_bytes, leWord}
+use Rattle.quantization.specs.Bytes.{le_bytes, le_word}
 
 -- the number that is stored for a float, and the float that is read for a number
 unfoldable pub encoded : ℕ → Float → ℕ
@@ -20,20 +20,20 @@ unfoldable pub restored : ℕ → Float → Float
 restored mode x = decoded mode (encoded mode x)
 
 -- the bytes of one component, and of a vector's components one after another
-unfoldable pub compBytes : ℕ → Float → List ℕ
-compBytes mode x = le_bytes (compSize mode) (encoded mode x)
+unfoldable pub comp_bytes : ℕ → Float → List ℕ
+comp_bytes mode x = le_bytes (comp_size mode) (encoded mode x)
 
-unfoldable pub lowerBytes : ℕ → List Float → List ℕ
-lowerBytes mode [] = []
-lowerBytes mode (x ∷ xs) = compBytes mode x ++ lowerBytes mode xs
+unfoldable pub lower_bytes : ℕ → List Float → List ℕ
+lower_bytes mode [] = []
+lower_bytes mode (x ∷ xs) = comp_bytes mode x ++ lower_bytes mode xs
 
 -- the component that starts at byte `at`, and n components from there on
-unfoldable pub componentAt : ℕ → List ℕ → ℕ → Float
-componentAt mode s at = decoded mode (leWord s at (compSize mode))
+unfoldable pub component_at : ℕ → List ℕ → ℕ → Float
+component_at mode s at = decoded mode (le_word s at (comp_size mode))
 
 unfoldable pub components : ℕ → List ℕ → ℕ → ℕ → List Float
 components mode s at zero = []
-components mode s at (suc n) = componentAt mode s at ∷ components mode s (at + compSize mode) n
+components mode s at (suc n) = component_at mode s at ∷ components mode s (at + comp_size mode) n
 
 -- every float of a list is one of binary32, as those of an `f32` slice are
 abbrev pub Fit : List Float → Type 0

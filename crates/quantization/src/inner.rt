@@ -1,9 +1,9 @@
 // Stored bytes for the crates above, which see to it that the bytes are there: whole numbers and components, little-endian.
 ghost use Rattle.std.specs.Prelude.{◌≡◌, ◌+◌, ◌^◌, ◌≤◌, ◌<◌, length};
 ghost use Rattle.std.proofs.lemmas.List.Edits.{sets};
-ghost use Rattle.paper.specs.Geometry.{compSize};
-ghost use Rattle.quantization.specs.Bytes.{le_bytes, leWord};
-ghost use Rattle.quantization.specs.Stored.{encoded, compBytes, componentAt};
+ghost use Rattle.paper.specs.Geometry.{comp_size};
+ghost use Rattle.quantization.specs.Bytes.{le_bytes, le_word};
+ghost use Rattle.quantization.specs.Stored.{encoded, comp_bytes, component_at};
 
 // Writes the `size` lowest bytes of n from `at` on, the lowest first.
 pub fn put_le(out: &mut [u8], at: usize, size: usize, n: u64)
@@ -22,7 +22,7 @@ pub fn put_le(out: &mut [u8], at: usize, size: usize, n: u64)
 // The number of the `size` bytes from `at` on, the lowest first.
 pub fn get_le(s: &[u8], at: usize, size: usize) -> u64
     requires { (at + size ≤ length s.now) × (size ≤ 8) }
-    ensures { (result ≡ leWord s.now at size) × (result < 256 ^ size) }
+    ensures { (result ≡ le_word s.now at size) × (result < 256 ^ size) }
 {
     let mut j = size;
     let mut r: u64 = 0;
@@ -51,8 +51,8 @@ fn encode(mode: usize, x: f32) -> u64
 
 // Stores a component from `at` on.
 pub fn put_component(array: &mut [u8], at: usize, x: f32, mode: usize)
-    requires { at + compSize mode ≤ length array.old }
-    ensures { array.new ≡ sets array.old at (compBytes mode x) }
+    requires { at + comp_size mode ≤ length array.old }
+    ensures { array.new ≡ sets array.old at (comp_bytes mode x) }
 {
     put_le(array, at, paper::component_size(mode), encode(mode, x));
 }
@@ -66,7 +66,7 @@ fn wide(x: u8) -> u32
 // Four bytes, the lowest first: a function by itself, so that the compiler makes it one load.
 fn word4(s: &[u8], at: usize) -> u32
     requires { at + 4 ≤ length s.now }
-    ensures { result ≡ leWord s.now at 4 }
+    ensures { result ≡ le_word s.now at 4 }
 {
     wide(s[at]) + 256 * wide(s[at + 1]) + 65536 * wide(s[at + 2]) + 16777216 * wide(s[at + 3])
 }
@@ -74,15 +74,15 @@ fn word4(s: &[u8], at: usize) -> u32
 // Two bytes, the lowest first.
 fn word2(s: &[u8], at: usize) -> u16
     requires { at + 2 ≤ length s.now }
-    ensures { result ≡ leWord s.now at 2 }
+    ensures { result ≡ le_word s.now at 2 }
 {
     (wide(s[at]) + 256 * wide(s[at + 1])) as u16
 }
 
 // The component that starts at byte `at`.
 pub fn component(array: &[u8], at: usize, mode: usize) -> f32
-    requires { at + compSize mode ≤ length array.now }
-    ensures { result ≡ componentAt mode array.now at }
+    requires { at + comp_size mode ≤ length array.now }
+    ensures { result ≡ component_at mode array.now at }
 {
     if mode == 0 {
         return sqrt::of_bits(word4(array, at));

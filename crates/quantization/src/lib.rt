@@ -4,7 +4,7 @@
 
 ghost use Rattle.std.specs.Prelude.{◌≡◌};
 ghost use Rattle.quantization.specs.Bf16.{lowered, widened};
-ghost use Rattle.quantization.specs.Copies.{marshalled, marshalOf, unmarshalled, unmarshalOf};
+ghost use Rattle.quantization.specs.Copies.{marshalled, marshal_of, unmarshalled, unmarshal_of};
 ghost use Rattle.quantization.specs.Laws.{Laws};
 
 pub mod inner;
@@ -39,7 +39,7 @@ pub fn widen(h: u16) -> u32
 // Copies the components of v into the array, lowered on the way as the mode says, and keeps the bytes beyond them. Refuses 1
 // for an unknown mode, then 2 for an array that is shorter than the components need; the array is then unchanged.
 pub fn marshal(mode: usize, v: &[f32], array: &mut [u8]) -> u32
-    ensures { marshalled result array.new ≡ marshalOf mode v.now array.old }
+    ensures { marshalled result array.new ≡ marshal_of mode v.now array.old }
 {
     if !paper::mode_ok(mode) {
         return paper::WRONG_GEOMETRY;
@@ -59,7 +59,7 @@ pub fn marshal(mode: usize, v: &[f32], array: &mut [u8]) -> u32
 // Reads every component of the array into out, widened as the mode says, and keeps the components of out beyond them. Refuses 1
 // for an unknown mode, then 2 if the array isn't made of whole components or out has no room for each; out is then unchanged.
 pub fn unmarshal(mode: usize, array: &[u8], out: &mut [f32]) -> u32
-    ensures { unmarshalled result out.new ≡ unmarshalOf mode array.now out.old }
+    ensures { unmarshalled result out.new ≡ unmarshal_of mode array.now out.old }
 {
     if !paper::mode_ok(mode) {
         return paper::WRONG_GEOMETRY;

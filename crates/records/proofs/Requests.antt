@@ -12,14 +12,14 @@ use Rattle.paper.proofs.Choice.{and_l, and_r}
 use Rattle.records.specs.declared.Request.{Request}
 use Rattle.records.specs.declared.Request.TheVariants.{Refuse}
 use Rattle.records.specs.declared.Session.{Session}
-use Rattle.records.specs.Fields.{u16At, u32_at}
-use Rattle.records.specs.Requests.{Limits, Fits, demand, withinLimits, geometryFits, geometryOf, basisOf, additionOf, searchOf, kind_of, requestOf}
+use Rattle.records.specs.Fields.{u16_at, u32_at}
+use Rattle.records.specs.Requests.{Limits, Fits, demand, within_limits, geometry_fits, geometry_of, basis_of, addition_of, search_of, kind_of, request_of}
 
 pub square : (d : ℕ) → d ≤ 8 → d * d ≤ 64
 square d h = mul-le-mul h h
 
-pub limits : (g : Session) → withinLimits g ≡ true → Limits g
-unfolding withinLimits
+pub limits : (g : Session) → within_limits g ≡ true → Limits g
+unfolding within_limits
 limits g e =
     let e₁ = and_r (leb g.d 8) _ e in
     let e₂ = and_r (leb g.n 4) _ e₁ in
@@ -32,16 +32,16 @@ limits g e =
 
 -- ---- by kind
 
-pub unlimited : (s : List ℕ) (g : Session) → withinLimits g ≡ false → Refuse 1 ≡ requestOf s g
-unfolding requestOf
+pub unlimited : (s : List ℕ) (g : Session) → within_limits g ≡ false → Refuse 1 ≡ request_of s g
+unfolding request_of
 unlimited s g f = rw f refl
 
-pub cut : (s : List ℕ) (g : Session) → withinLimits g ≡ true → length s < 2 → Refuse 15 ≡ requestOf s g
-unfolding requestOf
+pub cut : (s : List ℕ) (g : Session) → within_limits g ≡ true → length s < 2 → Refuse 15 ≡ request_of s g
+unfolding request_of
 cut s g f h = rw (f, lt-leb 2 (length s) h) refl
 
-pub of-kind : (s : List ℕ) (g : Session) (k : ℕ) (r : Request) → withinLimits g ≡ true → 2 ≤ length s → k ≡ u16At s 0 → r ≡ kind_of k s g → r ≡ requestOf s g
-unfolding requestOf
+pub of-kind : (s : List ℕ) (g : Session) (k : ℕ) (r : Request) → within_limits g ≡ true → 2 ≤ length s → k ≡ u16_at s 0 → r ≡ kind_of k s g → r ≡ request_of s g
+unfolding request_of
 of-kind s g k r f h e q = q ∙ rw (f, le-leb 2 (length s) h, ← e) refl
 
 pub unknown : (s : List ℕ) (g : Session) (k : ℕ) → (k ≡ 1 → ⊥) → (k ≡ 2 → ⊥) → (k ≡ 3 → ⊥) → (k ≡ 5 → ⊥) → Refuse 15 ≡ kind_of k s g
@@ -58,24 +58,24 @@ module _ (s : List ℕ) (g : Session) where
   pick-fits true p q x y = x
   pick-fits false p q x y = y
 
-  geometry-fits : Fits (geometryOf s g) s g
-  unfolding geometryOf
-  geometry-fits = demand-fits 1 (eqb g.stage 0) _ (λ _. demand-fits 2 (eqb (length s) 11) _ (λ _. demand-fits 1 (geometryFits (u16At s 2) (u16At s 4) (u32_at s 6) (get_or s 10 0)) _ (λ f. f)))
+  geometry-fits : Fits (geometry_of s g) s g
+  unfolding geometry_of
+  geometry-fits = demand-fits 1 (eqb g.stage 0) _ (λ _. demand-fits 2 (eqb (length s) 11) _ (λ _. demand-fits 1 (geometry_fits (u16_at s 2) (u16_at s 4) (u32_at s 6) (get_or s 10 0)) _ (λ f. f)))
 
   module _ (l : Limits g) where
-    basis-fits : Fits (basisOf s g) s g
-    unfolding basisOf
+    basis-fits : Fits (basis_of s g) s g
+    unfolding basis_of
     basis-fits =
         demand-fits 1 (eqb g.stage 1) _ (λ _. demand-fits 2 (eqb (length s) (4 + 4 * (g.d * g.d))) _
-        (λ e. demand-fits 1 (ltb (u16At s 2) g.n) _ (λ h. (l, ltb-true (u16At s 2) g.n h, eqb-true (length s) (4 + 4 * (g.d * g.d)) e))))
+        (λ e. demand-fits 1 (ltb (u16_at s 2) g.n) _ (λ h. (l, ltb-true (u16_at s 2) g.n h, eqb-true (length s) (4 + 4 * (g.d * g.d)) e))))
 
-    addition-fits : Fits (additionOf s g) s g
-    unfolding additionOf
+    addition-fits : Fits (addition_of s g) s g
+    unfolding addition_of
     addition-fits =
         demand-fits 1 (not (eqb g.stage 0)) _ (λ _. demand-fits 2 (eqb (length s) (6 + 4 * g.d)) _ (λ e. (l, eqb-true (length s) (6 + 4 * g.d) e)))
 
-    search-fits : Fits (searchOf s g) s g
-    unfolding searchOf
+    search-fits : Fits (search_of s g) s g
+    unfolding search_of
     search-fits =
         demand-fits 1 (not (eqb g.stage 0)) _ (λ _. demand-fits 2 (eqb (length s) (10 + 4 * g.d)) _ (λ e. (l, eqb-true (length s) (10 + 4 * g.d) e)))
 
@@ -83,6 +83,6 @@ module _ (s : List ℕ) (g : Session) where
     kind_fits k =
         pick-fits (eqb k 1) _ _ geometry-fits (pick-fits (eqb k 2) _ _ basis-fits (pick-fits (eqb k 3) _ _ addition-fits (pick-fits (eqb k 5) _ _ search-fits tt)))
 
-  pub request-fits : Fits (requestOf s g) s g
-  unfolding requestOf
-  request-fits = demand-fits 1 (withinLimits g) _ (λ f. demand-fits 15 (leb 2 (length s)) _ (λ _. kind_fits (limits g f) (u16At s 0)))
+  pub request-fits : Fits (request_of s g) s g
+  unfolding request_of
+  request-fits = demand-fits 1 (within_limits g) _ (λ f. demand-fits 15 (leb 2 (length s)) _ (λ _. kind_fits (limits g f) (u16_at s 0)))

@@ -2,17 +2,17 @@
 use Rattle.std.specs.Prelude.{ℕ, zero, suc, ◌+◌, List, [], ◌∷◌, Float}
 use Rattle.std.specs.Float.Ieee.{of_bits}
 use Rattle.std.specs.Float.{binary32}
-use Rattle.quantization.specs.Bytes.{leWord}
+use Rattle.quantization.specs.Bytes.{le_word}
 
 -- the number of the two bytes at a place
-abbrev pub u16At : List ℕ → ℕ → ℕ
-u16At s at = leWord s at 2
+abbrev pub u16_at : List ℕ → ℕ → ℕ
+u16_at s at = le_word s at 2
 
 -- the number of the four bytes at a place
 abbrev pub u32_at : List ℕ → ℕ → ℕ
-u32_at s at = leWord s at 4
+u32_at s at = le_word s at 4
 
 -- k floats, the first at a place
-unfoldable pub floatsAt : ℕ → List ℕ → ℕ → List Float
-floatsAt zero s at = []
-floatsAt (suc k) s at = of_bits binary32 (u32_at s at) ∷ floatsAt k s (at + 4)
+unfoldable pub floats_at : ℕ → List ℕ → ℕ → List Float
+floats_at zero s at = []
+floats_at (suc k) s at = of_bits binary32 (u32_at s at) ∷ floats_at k s (at + 4)

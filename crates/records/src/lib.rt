@@ -2,7 +2,7 @@
 #![tactic(auto)]
 
 ghost use Rattle.std.specs.Prelude.{◌≡◌, ◌+◌, ◌*◌, ◌<◌};
-ghost use Rattle.records.specs.Requests.{Limits, withinLimits, geometryFits, geometryOf, basisOf, additionOf, searchOf, requestOf};
+ghost use Rattle.records.specs.Requests.{Limits, within_limits, geometry_fits, geometry_of, basis_of, addition_of, search_of, request_of};
 
 pub mod inner;
 
@@ -36,7 +36,7 @@ fn wide(b: u8) -> u32
 
 // Whether the numbers lie within the program's limits, so that its memory has room.
 fn within_limits(g: Session) -> bool
-    ensures { result ≡ withinLimits g }
+    ensures { result ≡ within_limits g }
 {
     if 8 < g.d {
         return false;
@@ -52,7 +52,7 @@ fn within_limits(g: Session) -> bool
 
 // Whether a geometry is good, and one that the program takes.
 fn geometry_fits(d: u32, n: u32, cap: u32, mode: u32) -> bool
-    ensures { result ≡ geometryFits d n cap mode }
+    ensures { result ≡ geometry_fits d n cap mode }
 {
     if !paper::geometry_ok(d as usize, n as usize, cap as usize, mode as usize) {
         return false;
@@ -68,7 +68,7 @@ fn geometry_fits(d: u32, n: u32, cap: u32, mode: u32) -> bool
 
 // Kind 1: once, of 11 bytes with its kind, and a geometry that the program takes.
 fn geometry_of(s: &[u8], g: Session) -> Request
-    ensures { result ≡ geometryOf s.now g }
+    ensures { result ≡ geometry_of s.now g }
 {
     if g.stage != 0 {
         return Request::Refuse(1);
@@ -89,7 +89,7 @@ fn geometry_of(s: &[u8], g: Session) -> Request
 // Kind 2: after the geometry and before the first accepted addition, with d * d floats, and a number below n.
 fn basis_of(s: &[u8], g: Session) -> Request
     requires { Limits g }
-    ensures { result ≡ basisOf s.now g }
+    ensures { result ≡ basis_of s.now g }
 {
     if g.stage != 1 {
         return Request::Refuse(1);
@@ -108,7 +108,7 @@ fn basis_of(s: &[u8], g: Session) -> Request
 // Kind 3: after the geometry, with d floats.
 fn addition_of(s: &[u8], g: Session) -> Request
     requires { Limits g }
-    ensures { result ≡ additionOf s.now g }
+    ensures { result ≡ addition_of s.now g }
 {
     if g.stage == 0 {
         return Request::Refuse(1);
@@ -123,7 +123,7 @@ fn addition_of(s: &[u8], g: Session) -> Request
 // Kind 5: after the geometry, with d floats.
 fn search_of(s: &[u8], g: Session) -> Request
     requires { Limits g }
-    ensures { result ≡ searchOf s.now g }
+    ensures { result ≡ search_of s.now g }
 {
     if g.stage == 0 {
         return Request::Refuse(1);
@@ -143,7 +143,7 @@ fn search_of(s: &[u8], g: Session) -> Request
 // not come now, 2 for its length, 1 for a field, in this order; and 1 before all of them for a session beyond the program's limits, which no run
 // comes to (law run-within of steps).
 pub fn asked(s: &[u8], g: Session) -> Request
-    ensures { result ≡ requestOf s.now g }
+    ensures { result ≡ request_of s.now g }
 {
     if !within_limits(g) {
         return Request::Refuse(1);

@@ -6,9 +6,9 @@ abbrev pub taken_of : ℕ → ℕ → ℕ
 taken_of h x = (48271 * h + x) % 2147483647
 
 -- a digest with each number of a list more
-unfoldable pub digestOf : ℕ → List ℕ → ℕ
-digestOf h [] = h
-digestOf h (x ∷ xs) = digestOf (taken_of h x) xs
+unfoldable pub digest_of : ℕ → List ℕ → ℕ
+digest_of h [] = h
+digest_of h (x ∷ xs) = digest_of (taken_of h x) xs
 
 -- a word goes in as two numbers, its low half first
 unfoldable pub halves : List ℕ → List ℕ

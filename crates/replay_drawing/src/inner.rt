@@ -1,7 +1,7 @@
 // What is drawn, and what a digest is, is stated in specs/ and proved.
 ghost use Rattle.std.specs.Prelude.{◌≡◌, length};
-ghost use Rattle.replay_drawing.specs.Draws.{next_of, componentOf, Draws, BasisDrawn, id_of};
-ghost use Rattle.replay_drawing.specs.Digests.{taken_of, digestOf, halves};
+ghost use Rattle.replay_drawing.specs.Draws.{next_of, component_of, Draws, BasisDrawn, id_of};
+ghost use Rattle.replay_drawing.specs.Digests.{taken_of, digest_of, halves};
 
 // A run: its geometry, the words of its counting layers, and what its vectors and targets are drawn with.
 #[derive(Clone, Copy)]
@@ -34,7 +34,7 @@ pub fn next_draw(seed: u32) -> u32
 
 // The component that a draw stands for: one of 2·grain + 1 numbers around 0, times the scale.
 fn component(draw: u32, grain: u16, scale: f32) -> f32
-    ensures { result ≡ componentOf draw grain scale }
+    ensures { result ≡ component_of draw grain scale }
 {
     let m = draw % (2 * (grain as u32) + 1);
     (std::num::nearest_u32_to_f32(m) - std::num::nearest_u32_to_f32(grain as u32)) * scale
@@ -135,7 +135,7 @@ fn taken(h: u32, x: u32) -> u32
 
 // The digest of words: of each the low half, then the high half.
 pub fn digest_words(words: &[u64]) -> u32
-    ensures { result ≡ digestOf 1 (halves words.now) }
+    ensures { result ≡ digest_of 1 (halves words.now) }
 {
     let mut h: u32 = 1;
     let mut i = 0;
@@ -155,7 +155,7 @@ fn wide(b: u8) -> u32
 
 // The digest of bytes.
 pub fn digest_bytes(bytes: &[u8]) -> u32
-    ensures { result ≡ digestOf 1 bytes.now }
+    ensures { result ≡ digest_of 1 bytes.now }
 {
     let mut h: u32 = 1;
     let mut i = 0;

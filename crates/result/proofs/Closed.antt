@@ -13,13 +13,13 @@ use lib.Seq.{take_all}
 use Rattle.paper.specs.Choice.{pick}
 use Rattle.paper.proofs.Choice.{and_l, and_r}
 use Rattle.result.specs.Lists.{all_of, is_held}
-use Rattle.result.specs.Ranked.{Entry, entry, larger, placed, lastBefore, stays, fed, inOrder, OneWay, Through}
-use Rattle.result.specs.Places.{fullAbove}
-use Rattle.result.specs.Sets.{entriesOf, fedSet}
+use Rattle.result.specs.Ranked.{Entry, entry, larger, placed, last_before, stays, fed, in_order, OneWay, Through}
+use Rattle.result.specs.Places.{full_above}
+use Rattle.result.specs.Sets.{entries_of, fed_set}
 use Rattle.result.specs.declared.ResultSet.{ResultSet}
 use Rattle.result.proofs.Answers.{form, set-stays}
 use Rattle.result.proofs.Puts.{sims-are}
-use Rattle.result.proofs.Keeps.{heldE, all-sims, Sound, sound-fed, entries-fed, fed-k, fed-long}
+use Rattle.result.proofs.Keeps.{held_e, all-sims, Sound, sound-fed, entries-fed, fed-k, fed-long}
 use Rattle.result.proofs.Order.{order-of, fed-order, larger-one-way}
 use Rattle.result.proofs.Sorted.{larger-through}
 
@@ -32,37 +32,37 @@ module _ (before : Float → Float → Bool) (one_way : OneWay before) (through 
       go true e = e
       go false e = let z : ◌≡◌ {A = Bool} true false = sym q ∙ through x a b h e p in e ∙ sym z
 
-  longer : (e y : Entry) (ws : List Entry) → lastBefore before e ws ≡ true → lastBefore before e (y ∷ ws) ≡ true
+  longer : (e y : Entry) (ws : List Entry) → last_before before e ws ≡ true → last_before before e (y ∷ ws) ≡ true
   longer e y [] h = let z : ◌≡◌ {A = ℕ} 0 1 = cc in absurd (omega arith)
   longer e y (w ∷ ws) h = h
 
   -- without its last, a list in order still ends so
-  without-last : (e y z : Entry) (zs : List Entry) → inOrder before (y ∷ z ∷ zs) ≡ true → all_of heldE (y ∷ z ∷ zs) ≡ true
-      → lastBefore before e (z ∷ zs) ≡ true → lastBefore before e (take (suc (length zs)) (y ∷ z ∷ zs)) ≡ true
-  without-last e y z [] o a h = ahead-too e.sim z.sim y.sim (and_l (heldE y) _ a) (not-true _ (order-of before y (z ∷ []) o).0) h
-  without-last e y z (w ∷ ws) o a h = without-last e z w ws (order-of before y (z ∷ w ∷ ws) o).1 (and_r (heldE y) _ a) h
+  without-last : (e y z : Entry) (zs : List Entry) → in_order before (y ∷ z ∷ zs) ≡ true → all_of held_e (y ∷ z ∷ zs) ≡ true
+      → last_before before e (z ∷ zs) ≡ true → last_before before e (take (suc (length zs)) (y ∷ z ∷ zs)) ≡ true
+  without-last e y z [] o a h = ahead-too e.sim z.sim y.sim (and_l (held_e y) _ a) (not-true _ (order-of before y (z ∷ []) o).0) h
+  without-last e y z (w ∷ ws) o a h = without-last e z w ws (order-of before y (z ∷ w ∷ ws) o).1 (and_r (held_e y) _ a) h
 
-  by-pick : (e : Entry) (n : ℕ) (b : Bool) (xs ys : List Entry) → (b ≡ true → lastBefore before e (take n xs) ≡ true) → (b ≡ false → lastBefore before e (take n ys) ≡ true)
-      → lastBefore before e (take n (pick b xs ys)) ≡ true
+  by-pick : (e : Entry) (n : ℕ) (b : Bool) (xs ys : List Entry) → (b ≡ true → last_before before e (take n xs) ≡ true) → (b ≡ false → last_before before e (take n ys) ≡ true)
+      → last_before before e (take n (pick b xs ys)) ≡ true
   by-pick e n true xs ys h k = h refl
   by-pick e n false xs ys h k = k refl
 
   -- an entry more, and the cut
-  placed-closed : (x e y : Entry) (ys : List Entry) → heldE e ≡ true → inOrder before (y ∷ ys) ≡ true → all_of heldE (y ∷ ys) ≡ true
-      → lastBefore before x (y ∷ ys) ≡ true → lastBefore before x (take (suc (length ys)) (placed before e (y ∷ ys))) ≡ true
+  placed-closed : (x e y : Entry) (ys : List Entry) → held_e e ≡ true → in_order before (y ∷ ys) ≡ true → all_of held_e (y ∷ ys) ≡ true
+      → last_before before x (y ∷ ys) ≡ true → last_before before x (take (suc (length ys)) (placed before e (y ∷ ys))) ≡ true
   placed-closed x e y [] he o a h =
       by-pick x 1 (eqb y.key e.key) (y ∷ []) (pick (before e.sim y.sim) (e ∷ y ∷ []) (y ∷ e ∷ [])) (λ _. h)
       (λ _. by-pick x 1 (before e.sim y.sim) (e ∷ y ∷ []) (y ∷ e ∷ []) (λ p. ahead-too x.sim y.sim e.sim he (one_way e.sim y.sim p) h) (λ _. h))
   placed-closed x e y (z ∷ zs) he o a h =
       let n : ℕ = suc (length zs) in
-      let rest = placed-closed x e z zs he (order-of before y (z ∷ zs) o).1 (and_r (heldE y) _ a) h in
+      let rest = placed-closed x e z zs he (order-of before y (z ∷ zs) o).1 (and_r (held_e y) _ a) h in
       by-pick x (suc n) (eqb y.key e.key) (y ∷ z ∷ zs) (pick (before e.sim y.sim) (e ∷ y ∷ z ∷ zs) (y ∷ placed before e (z ∷ zs)))
-      (λ _. ap (lastBefore before x) (take_all (suc n) (y ∷ z ∷ zs) (omega arith)) ∙ h)
+      (λ _. ap (last_before before x) (take_all (suc n) (y ∷ z ∷ zs) (omega arith)) ∙ h)
       (λ _. by-pick x (suc n) (before e.sim y.sim) (e ∷ y ∷ z ∷ zs) (y ∷ placed before e (z ∷ zs)) (λ _. without-last x y z zs o a h)
       (λ _. longer x y (take n (placed before e (z ∷ zs))) rest))
 
   -- so a full list stays closed
-  pub fed-closed : (k : ℕ) (x e : Entry) (es : List Entry) → heldE e ≡ true → inOrder before es ≡ true → all_of heldE es ≡ true
+  pub fed-closed : (k : ℕ) (x e : Entry) (es : List Entry) → held_e e ≡ true → in_order before es ≡ true → all_of held_e es ≡ true
       → stays before k x es ≡ true → stays before k x (fed before k e es) ≡ true
   unfolding fed
   fed-closed k x e es he o a h =
@@ -71,30 +71,30 @@ module _ (before : Float → Float → Bool) (one_way : OneWay before) (through 
       let m : length (fed before k e es) ≡ k = omega arith in
       rw (eq-eqb (length (fed before k e es)) k m) (go es (stays before k e es) n o a (and_r (eqb (length es) k) _ h))
     where
-      go : (es : List Entry) (b : Bool) → length es ≡ k → inOrder before es ≡ true → all_of heldE es ≡ true → lastBefore before x es ≡ true
-          → lastBefore before x (pick b es (take k (placed before e es))) ≡ true
+      go : (es : List Entry) (b : Bool) → length es ≡ k → in_order before es ≡ true → all_of held_e es ≡ true → last_before before x es ≡ true
+          → last_before before x (pick b es (take k (placed before e es))) ≡ true
       go es true n o a h = h
       go [] false n o a h = let z : ◌≡◌ {A = ℕ} 0 1 = cc in absurd (omega arith)
-      go (y ∷ ys) false n o a h = ap (λ (j : ℕ). lastBefore before x (take j (placed before e (y ∷ ys)))) (sym n) ∙ placed-closed x e y ys he o a h
+      go (y ∷ ys) false n o a h = ap (λ (j : ℕ). last_before before x (take j (placed before e (y ∷ ys)))) (sym n) ∙ placed-closed x e y ys he o a h
 
 -- ---- sets
 
-pub order-fed : (s : ResultSet) (e : Entry) → inOrder larger (entriesOf s) ≡ true → inOrder larger (entriesOf (fedSet s e)) ≡ true
-order-fed s e o = ap (inOrder larger) (entries-fed s e) ∙ fed-order larger larger-one-way s.k e (entriesOf s) o
+pub order-fed : (s : ResultSet) (e : Entry) → in_order larger (entries_of s) ≡ true → in_order larger (entries_of (fed_set s e)) ≡ true
+order-fed s e o = ap (in_order larger) (entries-fed s e) ∙ fed-order larger larger-one-way s.k e (entries_of s) o
 
-pub closed-stays : (s : ResultSet) (e : Entry) (x : Float) → Sound s → inOrder larger (entriesOf s) ≡ true → is_nan e.sim ≡ false
-    → fullAbove s.len s.k s.sims x ≡ true → fullAbove (fedSet s e).len (fedSet s e).k (fedSet s e).sims x ≡ true
+pub closed-stays : (s : ResultSet) (e : Entry) (x : Float) → Sound s → in_order larger (entries_of s) ≡ true → is_nan e.sim ≡ false
+    → full_above s.len s.k s.sims x ≡ true → full_above (fed_set s e).len (fed_set s e).k (fed_set s e).sims x ≡ true
 closed-stays s e x h o n c =
     let f = form s h.formed in
     let hi : s.len ≤ length s.ids = omega (arith, h.ids-long, f.short, f.small) in
     let hs : s.len ≤ length s.sims = omega (arith, h.sims-long, f.short, f.small) in
-    let s' = fedSet s e in
+    let s' = fed_set s e in
     let h' = sound-fed s e h n in
     let f' = form s' h'.formed in
     let hi' : s'.len ≤ length s'.ids = omega (arith, h'.ids-long, f'.short, f'.small) in
     let hs' : s'.len ≤ length s'.sims = omega (arith, h'.sims-long, f'.short, f'.small) in
-    let held : all_of heldE (entriesOf s) ≡ true = sym (all-sims (entriesOf s)) ∙ ap (all_of is_held) (sims-are s hi hs) ∙ f.held in
-    let a : stays larger s.k (entry 0 x) (entriesOf s) ≡ true = sym (set-stays s (entry 0 x) hi hs) ∙ c in
+    let held : all_of held_e (entries_of s) ≡ true = sym (all-sims (entries_of s)) ∙ ap (all_of is_held) (sims-are s hi hs) ∙ f.held in
+    let a : stays larger s.k (entry 0 x) (entries_of s) ≡ true = sym (set-stays s (entry 0 x) hi hs) ∙ c in
     set-stays s' (entry 0 x) hi' hs'
     ∙ (λ i. stays larger (fed-k s e i) (entry 0 x) (entries-fed s e i))
-    ∙ fed-closed larger larger-one-way larger-through s.k (entry 0 x) e (entriesOf s) (ap not n) o held a
+    ∙ fed-closed larger larger-one-way larger-through s.k (entry 0 x) e (entries_of s) (ap not n) o held a

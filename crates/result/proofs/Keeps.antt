@@ -11,12 +11,12 @@ use lib.ListN.{length, take, drop, replicate, length-append, length-drop, length
 use lib.Seq.{take_at, drop_at, drop-drop}
 use Rattle.paper.specs.Choice.{◌and◌, pick}
 use Rattle.paper.proofs.Choice.{and_l, and_r}
-use Rattle.result.specs.Lists.{all_of, is_held, isBlank, is_zero}
+use Rattle.result.specs.Lists.{all_of, is_held, is_blank, is_zero}
 use Rattle.result.specs.Ranked.{Entry, entry, larger, placed, stays, fed}
-use Rattle.result.specs.Places.{entries, fullAbove}
-use Rattle.result.specs.Sets.{wellFormed, entriesOf, over, counted, fedSet, feedRefusal, feedOf, answer, emptySet}
+use Rattle.result.specs.Places.{entries, full_above}
+use Rattle.result.specs.Sets.{well_formed, entries_of, over, counted, fed_set, feed_refusal, feed_of, answer, empty_set}
 use Rattle.result.specs.declared.ResultSet.{ResultSet}
-pub use Rattle.result.specs.Ranked.{heldE}
+pub use Rattle.result.specs.Ranked.{held_e}
 pub use Rattle.result.specs.Sets.{Sound}
 use Rattle.result.proofs.Puts.{len_is, sims-are, key_of, sim-of}
 use Rattle.result.proofs.Answers.{form, form-rest, fed-stays}
@@ -27,38 +27,38 @@ entries-laid : (es : List Entry) (is : List ℕ) (ss : List Float) → entries (
 entries-laid [] is ss = refl
 entries-laid (e ∷ es) is ss = ap (λ (r : List Entry). e ∷ r) (entries-laid es is ss)
 
-pub entries-fed : (s : ResultSet) (e : Entry) → entriesOf (fedSet s e) ≡ fed larger s.k e (entriesOf s)
-unfolding entriesOf fedSet
-entries-fed s e = entries-laid (fed larger s.k e (entriesOf s)) _ _
+pub entries-fed : (s : ResultSet) (e : Entry) → entries_of (fed_set s e) ≡ fed larger s.k e (entries_of s)
+unfolding entries_of fed_set
+entries-fed s e = entries-laid (fed larger s.k e (entries_of s)) _ _
 
-pub entries_none : (k : ℕ) → entriesOf (emptySet k) ≡ []
-unfolding entriesOf emptySet
+pub entries_none : (k : ℕ) → entries_of (empty_set k) ≡ []
+unfolding entries_of empty_set
 entries_none k = refl
 
 -- ---- its numbers
 
-pub fed-k : (s : ResultSet) (e : Entry) → (fedSet s e).k ≡ s.k
-unfolding fedSet
+pub fed-k : (s : ResultSet) (e : Entry) → (fed_set s e).k ≡ s.k
+unfolding fed_set
 fed-k s e = refl
 
-pub fed-checked : (s : ResultSet) (e : Entry) → (fedSet s e).checked ≡ s.checked + 1
-unfolding fedSet
+pub fed-checked : (s : ResultSet) (e : Entry) → (fed_set s e).checked ≡ s.checked + 1
+unfolding fed_set
 fed-checked s e = refl
 
-pub fed-len : (s : ResultSet) (e : Entry) → (fedSet s e).len ≡ length (fed larger s.k e (entriesOf s))
-unfolding fedSet
+pub fed-len : (s : ResultSet) (e : Entry) → (fed_set s e).len ≡ length (fed larger s.k e (entries_of s))
+unfolding fed_set
 fed-len s e = refl
 
-pub empty-k : (k : ℕ) → (emptySet k).k ≡ k
-unfolding emptySet
+pub empty-k : (k : ℕ) → (empty_set k).k ≡ k
+unfolding empty_set
 empty-k k = refl
 
-pub empty-len : (k : ℕ) → (emptySet k).len ≡ 0
-unfolding emptySet
+pub empty-len : (k : ℕ) → (empty_set k).len ≡ 0
+unfolding empty_set
 empty-len k = refl
 
-pub empty-checked : (k : ℕ) → (emptySet k).checked ≡ 0
-unfolding emptySet
+pub empty-checked : (k : ℕ) → (empty_set k).checked ≡ 0
+unfolding empty_set
 empty-checked k = refl
 
 -- ---- lengths, over any comparison
@@ -91,11 +91,11 @@ length_some (suc n) (i ∷ is) [] = omega arith
 length_some (suc n) (i ∷ is) (s ∷ ss) = omega (arith, length_some n is ss)
 
 -- whatever the arrays hold, the length stays within k
-pub fed-within : (s : ResultSet) (e : Entry) → s.len ≤ s.k → (fedSet s e).len ≤ s.k
-unfolding entriesOf
+pub fed-within : (s : ResultSet) (e : Entry) → s.len ≤ s.k → (fed_set s e).len ≤ s.k
+unfolding entries_of
 fed-within s e h =
     let n = length_some s.len s.ids s.sims in
-    let l = fed-long larger s.k e (entriesOf s) (omega arith) in
+    let l = fed-long larger s.k e (entries_of s) (omega arith) in
     omega (arith, fed-len s e)
 
 -- ---- a test that each element passes
@@ -129,56 +129,56 @@ module _ {A : Type 0} (p : A → Bool) where
 
 -- ---- no NaN comes in, over any comparison
 
-pub all-sims : (es : List Entry) → all_of is_held (map sim-of es) ≡ all_of heldE es
+pub all-sims : (es : List Entry) → all_of is_held (map sim-of es) ≡ all_of held_e es
 all-sims [] = refl
 all-sims (e ∷ es) = ap (λ (b : Bool). is_held e.sim and b) (all-sims es)
 
-module _ (before : Float → Float → Bool) (e : Entry) (he : heldE e ≡ true) where
-  placed-all : (es : List Entry) → all_of heldE es ≡ true → all_of heldE (placed before e es) ≡ true
-  placed-all [] h = all_cons heldE e [] he refl
+module _ (before : Float → Float → Bool) (e : Entry) (he : held_e e ≡ true) where
+  placed-all : (es : List Entry) → all_of held_e es ≡ true → all_of held_e (placed before e es) ≡ true
+  placed-all [] h = all_cons held_e e [] he refl
   placed-all (x ∷ xs) h =
-      all-pick heldE (eqb x.key e.key) (x ∷ xs) (pick (before e.sim x.sim) (e ∷ x ∷ xs) (x ∷ placed before e xs)) h
-      (all-pick heldE (before e.sim x.sim) (e ∷ x ∷ xs) (x ∷ placed before e xs) (all_cons heldE e (x ∷ xs) he h)
-      (all_cons heldE x (placed before e xs) (and_l (heldE x) _ h) (placed-all xs (and_r (heldE x) _ h))))
+      all-pick held_e (eqb x.key e.key) (x ∷ xs) (pick (before e.sim x.sim) (e ∷ x ∷ xs) (x ∷ placed before e xs)) h
+      (all-pick held_e (before e.sim x.sim) (e ∷ x ∷ xs) (x ∷ placed before e xs) (all_cons held_e e (x ∷ xs) he h)
+      (all_cons held_e x (placed before e xs) (and_l (held_e x) _ h) (placed-all xs (and_r (held_e x) _ h))))
 
-  pub fed-all : (k : ℕ) (es : List Entry) → all_of heldE es ≡ true → all_of heldE (fed before k e es) ≡ true
+  pub fed-all : (k : ℕ) (es : List Entry) → all_of held_e es ≡ true → all_of held_e (fed before k e es) ≡ true
   unfolding fed
-  fed-all k es h = all-pick heldE (stays before k e es) es (take k (placed before e es)) h (all_take heldE k (placed before e es) (placed-all es h))
+  fed-all k es h = all-pick held_e (stays before k e es) es (take k (placed before e es)) h (all_take held_e k (placed before e es) (placed-all es h))
 
 -- ---- a set that is fed stays well formed
 
-pub keeps : (s : ResultSet) (e : Entry) → s.len ≤ length s.ids → s.len ≤ length s.sims → is_nan e.sim ≡ false → wellFormed s ≡ true → wellFormed (fedSet s e) ≡ true
-unfolding fedSet
+pub keeps : (s : ResultSet) (e : Entry) → s.len ≤ length s.ids → s.len ≤ length s.sims → is_nan e.sim ≡ false → well_formed s ≡ true → well_formed (fed_set s e) ≡ true
+unfolding fed_set
 keeps s e hi hs hn w =
-    let es = entriesOf s in
+    let es = entries_of s in
     let new = fed larger s.k e es in
     let f = form s w in
     let n : length es ≡ s.len = len_is s hi hs in
     let l = fed-long larger s.k e es (omega arith) in
-    let held : all_of heldE es ≡ true = sym (all-sims es) ∙ ap (all_of is_held) (sims-are s hi hs) ∙ f.held in
+    let held : all_of held_e es ≡ true = sym (all-sims es) ∙ ap (all_of is_held) (sims-are s hi hs) ∙ f.held in
     let kept : all_of is_held (map sim-of new) ≡ true = all-sims new ∙ fed-all larger e (ap not hn) s.k es held in
     let ls : length (map sim-of new) ≡ length new = length-map new sim-of in
     let lk : length (map key_of new) ≡ length new = length-map new key_of in
     let a : true ≡ all_of is_held (take (length new) (over (map sim-of new) s.sims)) =
     sym (ap (all_of is_held) (take_at (map sim-of new) (drop (length (map sim-of new)) s.sims) (length new) ls) ∙ kept) in
-    let d : true ≡ all_of isBlank (drop (length new) (over (map sim-of new) s.sims)) =
-    sym (ap (all_of isBlank) (drop_at (map sim-of new) (drop (length (map sim-of new)) s.sims) (length new) ls)
-    ∙ all-later isBlank s.len (length (map sim-of new)) s.sims (omega arith) f.blank-sims) in
+    let d : true ≡ all_of is_blank (drop (length new) (over (map sim-of new) s.sims)) =
+    sym (ap (all_of is_blank) (drop_at (map sim-of new) (drop (length (map sim-of new)) s.sims) (length new) ls)
+    ∙ all-later is_blank s.len (length (map sim-of new)) s.sims (omega arith) f.blank-sims) in
     let i : true ≡ all_of is_zero (drop (length new) (over (map key_of new) s.ids)) =
     sym (ap (all_of is_zero) (drop_at (map key_of new) (drop (length (map key_of new)) s.ids) (length new) lk)
     ∙ all-later is_zero s.len (length (map key_of new)) s.ids (omega arith) f.blank-ids) in
-    sym (form-rest (fedSet s e) true true true f.small l.1 a d i)
+    sym (form-rest (fed_set s e) true true true f.small l.1 a d i)
 
 -- ---- a set as the calls hand it out
 
-blank-zero : isBlank (of_bits binary32 0) ≡ true
+blank-zero : is_blank (of_bits binary32 0) ≡ true
 unfolding of_bits to_bits is_nan
 blank-zero = refl
 
-pub sound_empty : (k : ℕ) → k ≤ 256 → Sound (emptySet k)
-unfolding emptySet
+pub sound_empty : (k : ℕ) → k ≤ 256 → Sound (empty_set k)
+unfolding empty_set
 sound_empty k h = record {
-  formed = sym (form-rest (emptySet k) true true true h (omega arith) refl (sym (all_replicate isBlank 256 (of_bits binary32 0) blank-zero)) (sym (all_replicate is_zero 256 0 refl)));
+  formed = sym (form-rest (empty_set k) true true true h (omega arith) refl (sym (all_replicate is_blank 256 (of_bits binary32 0) blank-zero)) (sym (all_replicate is_zero 256 0 refl)));
   ids-long = length-replicate {A = ℕ} 256 0;
   sims-long = length-replicate 256 (of_bits binary32 0);
 }
@@ -186,15 +186,15 @@ sound_empty k h = record {
 over-long : {A : Type 0} (xs old : List A) (n : ℕ) → length xs ≤ n → length old ≡ n → length (over xs old) ≡ n
 over-long xs old n h l = length-append xs (drop (length xs) old) ∙ omega (arith, length-drop (length xs) old)
 
-pub sound-fed : (s : ResultSet) (e : Entry) → Sound s → is_nan e.sim ≡ false → Sound (fedSet s e)
-unfolding fedSet
+pub sound-fed : (s : ResultSet) (e : Entry) → Sound s → is_nan e.sim ≡ false → Sound (fed_set s e)
+unfolding fed_set
 sound-fed s e h n =
     let f = form s h.formed in
     let b = h.ids-long in
     let d = h.sims-long in
-    let new = fed larger s.k e (entriesOf s) in
+    let new = fed larger s.k e (entries_of s) in
     let m = len_is s (omega arith) (omega arith) in
-    let l = fed-long larger s.k e (entriesOf s) (omega arith) in
+    let l = fed-long larger s.k e (entries_of s) (omega arith) in
     let lk = length-map new key_of in
     let ls = length-map new sim-of in
     record {
@@ -204,7 +204,7 @@ sound-fed s e h n =
     }
 
 -- an entry that a full set is closed to is counted, and no more
-pub closed-counted : (s : ResultSet) (e : Entry) → Sound s → fullAbove s.len s.k s.sims e.sim ≡ true → counted s ≡ fedSet s e
+pub closed-counted : (s : ResultSet) (e : Entry) → Sound s → full_above s.len s.k s.sims e.sim ≡ true → counted s ≡ fed_set s e
 closed-counted s e h b =
     let f = form s h.formed in
     let i = h.ids-long in
@@ -212,7 +212,7 @@ closed-counted s e h b =
     fed-stays s e (omega arith) (omega arith) f.short b
 
 -- the public feed of such a set is the inner one, unless the score is NaN or the count is full
-pub feed-accepts : (s : ResultSet) (id : ℕ) (score : Float) → wellFormed s ≡ true → is_nan score ≡ false → s.checked < 4294967295
-    → feedOf s id score ≡ answer 0 (fedSet s (entry id score))
-unfolding feedOf feedRefusal
+pub feed-accepts : (s : ResultSet) (id : ℕ) (score : Float) → well_formed s ≡ true → is_nan score ≡ false → s.checked < 4294967295
+    → feed_of s id score ≡ answer 0 (fed_set s (entry id score))
+unfolding feed_of feed_refusal
 feed-accepts s id score w n c = rw (w, n, ne_eqb s.checked 4294967295 (λ p. omega arith))

@@ -10,7 +10,7 @@ use lib.Ieee.{Float, nan, inf, fin, up, down, lt, below}
 use lib.ListN.{take}
 use Rattle.paper.specs.Choice.{pick}
 use Rattle.paper.proofs.Choice.{and_l, and_r}
-use Rattle.result.specs.Ranked.{Entry, larger, placed, stays, fed, fedList, inOrder, OneWay}
+use Rattle.result.specs.Ranked.{Entry, larger, placed, stays, fed, fed_list, in_order, OneWay}
 
 module _ (before : Float → Float → Bool) where
   -- whether x may stand ahead of the list
@@ -18,15 +18,15 @@ module _ (before : Float → Float → Bool) where
   ahead x [] = true
   ahead x (y ∷ ys) = not (before y.sim x.sim)
 
-  pub order-of : (x : Entry) (ys : List Entry) → inOrder before (x ∷ ys) ≡ true → (ahead x ys ≡ true) × (inOrder before ys ≡ true)
-  unfolding inOrder
+  pub order-of : (x : Entry) (ys : List Entry) → in_order before (x ∷ ys) ≡ true → (ahead x ys ≡ true) × (in_order before ys ≡ true)
+  unfolding in_order
   order-of x [] h = (refl, refl)
   order-of x (y ∷ ys) h = (and_l (not (before y.sim x.sim)) _ h, and_r (not (before y.sim x.sim)) _ h)
 
-  in_order : (x : Entry) (ys : List Entry) → ahead x ys ≡ true → inOrder before ys ≡ true → inOrder before (x ∷ ys) ≡ true
-  unfolding inOrder
-  in_order x [] a o = refl
-  in_order x (y ∷ ys) a o = rw (a, o)
+  in-order : (x : Entry) (ys : List Entry) → ahead x ys ≡ true → in_order before ys ≡ true → in_order before (x ∷ ys) ≡ true
+  unfolding in_order
+  in-order x [] a o = refl
+  in-order x (y ∷ ys) a o = rw (a, o)
 
   ahead-pick : (x : Entry) (b : Bool) (ys zs : List Entry) → ahead x ys ≡ true → ahead x zs ≡ true → ahead x (pick b ys zs) ≡ true
   ahead-pick x true ys zs h k = h
@@ -43,31 +43,31 @@ module _ (before : Float → Float → Bool) where
   ahead-take x (suc k) [] h = refl
   ahead-take x (suc k) (y ∷ ys) h = h
 
-  take-order : (k : ℕ) (es : List Entry) → inOrder before es ≡ true → inOrder before (take k es) ≡ true
-  unfolding inOrder
+  take-order : (k : ℕ) (es : List Entry) → in_order before es ≡ true → in_order before (take k es) ≡ true
+  unfolding in_order
   take-order zero es h = refl
   take-order (suc k) [] h = refl
-  take-order (suc k) (x ∷ xs) h = let o = order-of x xs h in in_order x (take k xs) (ahead-take x k xs o.0) (take-order k xs o.1)
+  take-order (suc k) (x ∷ xs) h = let o = order-of x xs h in in-order x (take k xs) (ahead-take x k xs o.0) (take-order k xs o.1)
 
-  pick-order : (b : Bool) (xs ys : List Entry) → (b ≡ true → inOrder before xs ≡ true) → (b ≡ false → inOrder before ys ≡ true) → inOrder before (pick b xs ys) ≡ true
+  pick-order : (b : Bool) (xs ys : List Entry) → (b ≡ true → in_order before xs ≡ true) → (b ≡ false → in_order before ys ≡ true) → in_order before (pick b xs ys) ≡ true
   pick-order true xs ys h k = h refl
   pick-order false xs ys h k = k refl
 
   module _ (one_way : OneWay before) where
-    placed-order : (e : Entry) (es : List Entry) → inOrder before es ≡ true → inOrder before (placed before e es) ≡ true
-    unfolding inOrder
+    placed-order : (e : Entry) (es : List Entry) → in_order before es ≡ true → in_order before (placed before e es) ≡ true
+    unfolding in_order
     placed-order e [] h = refl
     placed-order e (x ∷ xs) h =
         pick-order (eqb x.key e.key) (x ∷ xs) (pick (before e.sim x.sim) (e ∷ x ∷ xs) (x ∷ placed before e xs)) (λ _. h) (λ _.
         pick-order (before e.sim x.sim) (e ∷ x ∷ xs) (x ∷ placed before e xs)
-        (λ p. in_order e (x ∷ xs) (ap not (one_way e.sim x.sim p)) h)
-        (λ p. let o = order-of x xs h in in_order x (placed before e xs) (ahead-placed e x xs p o.0) (placed-order e xs o.1)))
+        (λ p. in-order e (x ∷ xs) (ap not (one_way e.sim x.sim p)) h)
+        (λ p. let o = order-of x xs h in in-order x (placed before e xs) (ahead-placed e x xs p o.0) (placed-order e xs o.1)))
 
-    pub fed-order : (k : ℕ) (e : Entry) (es : List Entry) → inOrder before es ≡ true → inOrder before (fed before k e es) ≡ true
+    pub fed-order : (k : ℕ) (e : Entry) (es : List Entry) → in_order before es ≡ true → in_order before (fed before k e es) ≡ true
     unfolding fed
     fed-order k e es h = pick-order (stays before k e es) es (take k (placed before e es)) (λ _. h) (λ _. take-order k (placed before e es) (placed-order e es h))
 
-    pub fed-list-order : (k : ℕ) (xs es : List Entry) → inOrder before es ≡ true → inOrder before (fedList before k xs es) ≡ true
+    pub fed-list-order : (k : ℕ) (xs es : List Entry) → in_order before es ≡ true → in_order before (fed_list before k xs es) ≡ true
     fed-list-order k [] es h = h
     fed-list-order k (x ∷ xs) es h = fed-list-order k xs (fed before k x es) (fed-order k x es h)
 

@@ -8,19 +8,19 @@ use native.Mathlib.Omega.{arith}
 use lib.Ieee.{Float}
 use lib.ListN.{length, take, drop, take-append-drop, length-map}
 use lib.Seq.{take-take, take_all, length-take-le, take-append-le}
-use Rattle.result.specs.Lists.{insertAt}
+use Rattle.result.specs.Lists.{insert_at}
 use Rattle.result.specs.Ranked.{Entry}
 use Rattle.result.specs.Places.{entries}
 use Rattle.result.specs.Puts.{put_in}
-use Rattle.result.specs.Sets.{entriesOf, over, holding}
+use Rattle.result.specs.Sets.{entries_of, over, holding}
 use Rattle.result.specs.declared.ResultSet.{ResultSet}
 use Rattle.result.proofs.Walk.{length-entries}
 
 -- the set with the entry put in at i of its two arrays, up to n, and n for its length
-abbrev pub shiftedTo : ResultSet → ℕ → ℕ → Entry → ResultSet
-shiftedTo s i n e = record {
-  ids = take n (insertAt i e.key s.ids) ++ drop n s.ids;
-  sims = take n (insertAt i e.sim s.sims) ++ drop n s.sims;
+abbrev pub shifted_to : ResultSet → ℕ → ℕ → Entry → ResultSet
+shifted_to s i n e = record {
+  ids = take n (insert_at i e.key s.ids) ++ drop n s.ids;
+  sims = take n (insert_at i e.sim s.sims) ++ drop n s.sims;
   len = n;
   k = s.k;
   checked = s.checked;
@@ -29,26 +29,26 @@ shiftedTo s i n e = record {
 -- ---- an insertion, and what is cut from it
 
 module _ {A : Type 0} where
-  length-insert : (i : ℕ) (a : A) (xs : List A) → i ≤ length xs → length (insertAt i a xs) ≡ suc (length xs)
+  length-insert : (i : ℕ) (a : A) (xs : List A) → i ≤ length xs → length (insert_at i a xs) ≡ suc (length xs)
   length-insert zero a xs h = refl
   length-insert (suc i) a [] h = absurd (not-suc-le-zero h)
   length-insert (suc i) a (x ∷ xs) h = ap suc (length-insert i a xs (le_of_suc-le-suc h))
 
-  insert-take : (i n : ℕ) (a : A) (xs : List A) → i ≤ n → insertAt i a (take n xs) ≡ take (suc n) (insertAt i a xs)
+  insert-take : (i n : ℕ) (a : A) (xs : List A) → i ≤ n → insert_at i a (take n xs) ≡ take (suc n) (insert_at i a xs)
   insert-take zero n a xs h = refl
   insert-take (suc i) zero a xs h = absurd (not-suc-le-zero h)
   insert-take (suc i) (suc n) a [] h = refl
   insert-take (suc i) (suc n) a (x ∷ xs) h = ap (λ (r : List A). x ∷ r) (insert-take i n a xs (le_of_suc-le-suc h))
 
   -- with room for one more, and with none
-  cut-room : (i n k : ℕ) (a : A) (xs : List A) → i ≤ n → n ≤ length xs → n < k → take k (insertAt i a (take n xs)) ≡ take (n + 1) (insertAt i a xs)
+  cut-room : (i n k : ℕ) (a : A) (xs : List A) → i ≤ n → n ≤ length xs → n < k → take k (insert_at i a (take n xs)) ≡ take (n + 1) (insert_at i a xs)
   cut-room i n k a xs h l r =
       let e = length-take-le n xs l in
       let m = length-insert i a (take n xs) (omega arith) in
-      take_all k (insertAt i a (take n xs)) (omega arith) ∙ insert-take i n a xs h ∙ ap (λ (j : ℕ). take j (insertAt i a xs)) (sym (add-one n))
+      take_all k (insert_at i a (take n xs)) (omega arith) ∙ insert-take i n a xs h ∙ ap (λ (j : ℕ). take j (insert_at i a xs)) (sym (add-one n))
 
-  cut-full : (i n : ℕ) (a : A) (xs : List A) → i ≤ n → take n (insertAt i a (take n xs)) ≡ take n (insertAt i a xs)
-  cut-full i n a xs h = ap (λ (r : List A). take n r) (insert-take i n a xs h) ∙ take-take n (suc n) (insertAt i a xs) (omega arith)
+  cut-full : (i n : ℕ) (a : A) (xs : List A) → i ≤ n → take n (insert_at i a (take n xs)) ≡ take n (insert_at i a xs)
+  cut-full i n a xs h = ap (λ (r : List A). take n r) (insert-take i n a xs h) ∙ take-take n (suc n) (insert_at i a xs) (omega arith)
 
 -- ---- the two arrays of a list of entries
 
@@ -58,7 +58,7 @@ module _ {A B : Type 0} (f : A → B) where
   map-take (suc n) [] = refl
   map-take (suc n) (x ∷ xs) = ap (λ (r : List B). f x ∷ r) (map-take n xs)
 
-  map-insert : (i : ℕ) (a : A) (xs : List A) → map f (insertAt i a xs) ≡ insertAt i (f a) (map f xs)
+  map-insert : (i : ℕ) (a : A) (xs : List A) → map f (insert_at i a xs) ≡ insert_at i (f a) (map f xs)
   map-insert zero a xs = refl
   map-insert (suc i) a [] = refl
   map-insert (suc i) a (x ∷ xs) = ap (λ (r : List B). f x ∷ r) (map-insert i a xs)
@@ -93,70 +93,70 @@ module _ {A : Type 0} where
 -- ---- a set with a list in place of what it held
 
 module _ (s : ResultSet) (hi : s.len ≤ length s.ids) (hs : s.len ≤ length s.sims) where
-  pub len_is : length (entriesOf s) ≡ s.len
-  unfolding entriesOf
+  pub len_is : length (entries_of s) ≡ s.len
+  unfolding entries_of
   len_is = length-entries s.len s.ids s.sims hi hs
 
-  pub keys-are : map key_of (entriesOf s) ≡ take s.len s.ids
-  unfolding entriesOf
+  pub keys-are : map key_of (entries_of s) ≡ take s.len s.ids
+  unfolding entries_of
   keys-are = map-key s.len s.ids s.sims hi hs
 
-  pub sims-are : map sim-of (entriesOf s) ≡ take s.len s.sims
-  unfolding entriesOf
+  pub sims-are : map sim-of (entries_of s) ≡ take s.len s.sims
+  unfolding entries_of
   sims-are = map-sim s.len s.ids s.sims hi hs
 
-  pub hold-same : holding s (entriesOf s) ≡ s
+  pub hold-same : holding s (entries_of s) ≡ s
   hold-same =
-      let ik = lays-same (map key_of (entriesOf s)) s.ids s.len keys-are (length-map (entriesOf s) key_of ∙ len_is) in
-      let is = lays-same (map sim-of (entriesOf s)) s.sims s.len sims-are (length-map (entriesOf s) sim-of ∙ len_is) in
+      let ik = lays-same (map key_of (entries_of s)) s.ids s.len keys-are (length-map (entries_of s) key_of ∙ len_is) in
+      let is = lays-same (map sim-of (entries_of s)) s.sims s.len sims-are (length-map (entries_of s) sim-of ∙ len_is) in
       λ j. record { ids = ik j; sims = is j; len = len_is j; k = s.k; checked = s.checked }
 
   module _ (i : ℕ) (e : Entry) (hp : i ≤ s.len) where
     -- what is laid is the arrays' own insertion, cut at m
-    puts : (m : ℕ) → length (take s.k (insertAt i e (entriesOf s))) ≡ m
-        → take s.k (insertAt i e.key (take s.len s.ids)) ≡ take m (insertAt i e.key s.ids)
-        → take s.k (insertAt i e.sim (take s.len s.sims)) ≡ take m (insertAt i e.sim s.sims)
-        → shiftedTo s i m e ≡ put_in s (insertAt i e (entriesOf s))
+    puts : (m : ℕ) → length (take s.k (insert_at i e (entries_of s))) ≡ m
+        → take s.k (insert_at i e.key (take s.len s.ids)) ≡ take m (insert_at i e.key s.ids)
+        → take s.k (insert_at i e.sim (take s.len s.sims)) ≡ take m (insert_at i e.sim s.sims)
+        → shifted_to s i m e ≡ put_in s (insert_at i e (entries_of s))
     puts m l pk ps =
-        let new = take s.k (insertAt i e (entriesOf s)) in
-        let ek : map key_of new ≡ take s.k (insertAt i e.key (take s.len s.ids)) =
-        map-take key_of s.k (insertAt i e (entriesOf s)) ∙ ap (λ (r : List ℕ). take s.k r) (map-insert key_of i e (entriesOf s)
-        ∙ ap (λ (r : List ℕ). insertAt i e.key r) keys-are) in
-        let es : map sim-of new ≡ take s.k (insertAt i e.sim (take s.len s.sims)) =
-        map-take sim-of s.k (insertAt i e (entriesOf s)) ∙ ap (λ (r : List Float). take s.k r) (map-insert sim-of i e (entriesOf s)
-        ∙ ap (λ (r : List Float). insertAt i e.sim r) sims-are) in
-        let ik = lays (map key_of new) (take m (insertAt i e.key s.ids)) s.ids m (ek ∙ pk) (length-map new key_of ∙ l) in
-        let is = lays (map sim-of new) (take m (insertAt i e.sim s.sims)) s.sims m (es ∙ ps) (length-map new sim-of ∙ l) in
+        let new = take s.k (insert_at i e (entries_of s)) in
+        let ek : map key_of new ≡ take s.k (insert_at i e.key (take s.len s.ids)) =
+        map-take key_of s.k (insert_at i e (entries_of s)) ∙ ap (λ (r : List ℕ). take s.k r) (map-insert key_of i e (entries_of s)
+        ∙ ap (λ (r : List ℕ). insert_at i e.key r) keys-are) in
+        let es : map sim-of new ≡ take s.k (insert_at i e.sim (take s.len s.sims)) =
+        map-take sim-of s.k (insert_at i e (entries_of s)) ∙ ap (λ (r : List Float). take s.k r) (map-insert sim-of i e (entries_of s)
+        ∙ ap (λ (r : List Float). insert_at i e.sim r) sims-are) in
+        let ik = lays (map key_of new) (take m (insert_at i e.key s.ids)) s.ids m (ek ∙ pk) (length-map new key_of ∙ l) in
+        let is = lays (map sim-of new) (take m (insert_at i e.sim s.sims)) s.sims m (es ∙ ps) (length-map new sim-of ∙ l) in
         sym (λ j. record { ids = ik j; sims = is j; len = l j; k = s.k; checked = s.checked })
 
-    pub put-room : s.len < s.k → shiftedTo s i (s.len + 1) e ≡ put_in s (insertAt i e (entriesOf s))
+    pub put-room : s.len < s.k → shifted_to s i (s.len + 1) e ≡ put_in s (insert_at i e (entries_of s))
     put-room r =
         let n = len_is in
-        let m = length-insert i e (entriesOf s) (omega arith) in
-        let t = take_all s.k (insertAt i e (entriesOf s)) (omega arith) in
+        let m = length-insert i e (entries_of s) (omega arith) in
+        let t = take_all s.k (insert_at i e (entries_of s)) (omega arith) in
         puts (s.len + 1) (ap length t ∙ m ∙ ap suc n ∙ sym (add-one s.len))
         (cut-room i s.len s.k e.key s.ids hp hi r)
         (cut-room i s.len s.k e.sim s.sims hp hs r)
 
-    pub put_full : s.len ≡ s.k → shiftedTo s i s.k e ≡ put_in s (insertAt i e (entriesOf s))
+    pub put_full : s.len ≡ s.k → shifted_to s i s.k e ≡ put_in s (insert_at i e (entries_of s))
     put_full r =
         let n = len_is in
-        let m = length-insert i e (entriesOf s) (omega arith) in
-        puts s.k (length-take-le s.k (insertAt i e (entriesOf s)) (omega arith))
+        let m = length-insert i e (entries_of s) (omega arith) in
+        puts s.k (length-take-le s.k (insert_at i e (entries_of s)) (omega arith))
         (rw r (cut-full i s.k e.key s.ids (omega arith)))
         (rw r (cut-full i s.k e.sim s.sims (omega arith)))
 
     -- full, and the place is past the end: the list is cut to what it was
-    pub put-none : s.len ≡ s.k → i ≡ s.len → s ≡ put_in s (insertAt i e (entriesOf s))
+    pub put-none : s.len ≡ s.k → i ≡ s.len → s ≡ put_in s (insert_at i e (entries_of s))
     put-none r p =
         let n = len_is in
-        let c : take s.k (insertAt i e (entriesOf s)) ≡ entriesOf s =
-        take-append-le s.k (take i (entriesOf s)) (e ∷ drop i (entriesOf s)) (omega (arith, length-take-le i (entriesOf s) (omega arith)))
-        ∙ take-take s.k i (entriesOf s) (omega arith) ∙ take_all s.k (entriesOf s) (omega arith) in
+        let c : take s.k (insert_at i e (entries_of s)) ≡ entries_of s =
+        take-append-le s.k (take i (entries_of s)) (e ∷ drop i (entries_of s)) (omega (arith, length-take-le i (entries_of s) (omega arith)))
+        ∙ take-take s.k i (entries_of s) (omega arith) ∙ take_all s.k (entries_of s) (omega arith) in
         sym (ap (λ (r : List Entry). holding s r) c ∙ hold-same)
 
 -- the struct with two new arrays and a new length
-pub shifts : (s : ResultSet) (i n m : ℕ) (e : Entry) (a : List ℕ) (b : List Float) → a ≡ take n (insertAt i e.key s.ids) ++ drop n s.ids
-    → b ≡ take n (insertAt i e.sim s.sims) ++ drop n s.sims → m ≡ n
-    → ◌≡◌ {A = ResultSet} (record { ids = a; sims = b; len = m; k = s.k; checked = s.checked }) (shiftedTo s i n e)
+pub shifts : (s : ResultSet) (i n m : ℕ) (e : Entry) (a : List ℕ) (b : List Float) → a ≡ take n (insert_at i e.key s.ids) ++ drop n s.ids
+    → b ≡ take n (insert_at i e.sim s.sims) ++ drop n s.sims → m ≡ n
+    → ◌≡◌ {A = ResultSet} (record { ids = a; sims = b; len = m; k = s.k; checked = s.checked }) (shifted_to s i n e)
 shifts s i n m e a b p q r = λ j. record { ids = p j; sims = q j; len = r j; k = s.k; checked = s.checked }

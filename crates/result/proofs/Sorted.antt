@@ -13,31 +13,31 @@ use lib.Ieee.Positive as Positive
 use lib.ListN.{length, get_or}
 use Rattle.paper.proofs.Choice.{and_l, and_r}
 use Rattle.result.specs.Lists.{all_of, is_held}
-use Rattle.result.specs.Ranked.{Entry, larger, fed, fedList, inOrder, Through}
-use Rattle.result.specs.Sets.{entriesOf, emptySet, fedAll}
-use Rattle.result.proofs.Keeps.{heldE, entries_none, fed-all}
+use Rattle.result.specs.Ranked.{Entry, larger, fed, fed_list, in_order, Through}
+use Rattle.result.specs.Sets.{entries_of, empty_set, fed_all}
+use Rattle.result.proofs.Keeps.{held_e, entries_none, fed-all}
 use Rattle.result.proofs.Order.{order-of}
 use Rattle.result.proofs.Grown.{all-entries, grown-order}
 
 -- ---- along a list, over any comparison that goes through held scores
 
 module _ (before : Float → Float → Bool) (through : Through before) where
-  first-before : (x d : Entry) (ys : List Entry) (j : ℕ) → inOrder before (x ∷ ys) ≡ true → all_of heldE ys ≡ true → j < length ys
+  first-before : (x d : Entry) (ys : List Entry) (j : ℕ) → in_order before (x ∷ ys) ≡ true → all_of held_e ys ≡ true → j < length ys
       → before (get_or ys j d).sim x.sim ≡ false
   first-before x d [] j o a h = absurd (not-suc-le-zero h)
   first-before x d (y ∷ ys) zero o a h = not-true _ (order-of before x (y ∷ ys) o).0
   first-before x d (y ∷ ys) (suc j) o a h =
       let p = order-of before x (y ∷ ys) o in
-      through x.sim y.sim (get_or ys j d).sim (and_l (heldE y) _ a) (not-true _ p.0)
-      (first-before y d ys j p.1 (and_r (heldE y) _ a) (le_of_suc-le-suc h))
+      through x.sim y.sim (get_or ys j d).sim (and_l (held_e y) _ a) (not-true _ p.0)
+      (first-before y d ys j p.1 (and_r (held_e y) _ a) (le_of_suc-le-suc h))
 
-  pub sorted : (d : Entry) (es : List Entry) (i j : ℕ) → inOrder before es ≡ true → all_of heldE es ≡ true → i < j → j < length es
+  pub sorted : (d : Entry) (es : List Entry) (i j : ℕ) → in_order before es ≡ true → all_of held_e es ≡ true → i < j → j < length es
       → before (get_or es j d).sim (get_or es i d).sim ≡ false
   sorted d [] i j o a h l = absurd (not-suc-le-zero l)
   sorted d (x ∷ xs) i zero o a h l = absurd (not-suc-le-zero h)
-  sorted d (x ∷ xs) zero (suc j) o a h l = first-before x d xs j o (and_r (heldE x) _ a) (le_of_suc-le-suc l)
+  sorted d (x ∷ xs) zero (suc j) o a h l = first-before x d xs j o (and_r (held_e x) _ a) (le_of_suc-le-suc l)
   sorted d (x ∷ xs) (suc i) (suc j) o a h l =
-      sorted d xs i j (order-of before x xs o).1 (and_r (heldE x) _ a) (le_of_suc-le-suc h) (le_of_suc-le-suc l)
+      sorted d xs i j (order-of before x xs o).1 (and_r (held_e x) _ a) (le_of_suc-le-suc h) (le_of_suc-le-suc l)
 
 -- ---- the order of floats goes through any but NaN
 
@@ -105,14 +105,14 @@ larger-through = lt-through
 
 -- ---- a set grown from empty
 
-fed-list-all : (k : ℕ) (xs es : List Entry) → all_of heldE xs ≡ true → all_of heldE es ≡ true → all_of heldE (fedList larger k xs es) ≡ true
+fed-list-all : (k : ℕ) (xs es : List Entry) → all_of held_e xs ≡ true → all_of held_e es ≡ true → all_of held_e (fed_list larger k xs es) ≡ true
 fed-list-all k [] es h a = a
-fed-list-all k (x ∷ xs) es h a = fed-list-all k xs (fed larger k x es) (and_r (heldE x) _ h) (fed-all larger x (and_l (heldE x) _ h) k es a)
+fed-list-all k (x ∷ xs) es h a = fed-list-all k xs (fed larger k x es) (and_r (held_e x) _ h) (fed-all larger x (and_l (held_e x) _ h) k es a)
 
 -- no later score is larger than an earlier one
-pub grown-sorted : (k : ℕ) (es : List Entry) (d : Entry) (i j : ℕ) → all_of heldE es ≡ true → i < j → j < length (entriesOf (fedAll (emptySet k) es))
-    → lt (get_or (entriesOf (fedAll (emptySet k) es)) i d).sim (get_or (entriesOf (fedAll (emptySet k) es)) j d).sim ≡ false
+pub grown-sorted : (k : ℕ) (es : List Entry) (d : Entry) (i j : ℕ) → all_of held_e es ≡ true → i < j → j < length (entries_of (fed_all (empty_set k) es))
+    → lt (get_or (entries_of (fed_all (empty_set k) es)) i d).sim (get_or (entries_of (fed_all (empty_set k) es)) j d).sim ≡ false
 grown-sorted k es d i j a h l =
-    let e = all-entries (emptySet k) es ∙ ap (λ (r : List Entry). fedList larger (emptySet k).k es r) (entries_none k) in
-    sorted larger larger-through d (entriesOf (fedAll (emptySet k) es)) i j (grown-order k es)
-    (ap (all_of heldE) e ∙ fed-list-all (emptySet k).k es [] a refl) h l
+    let e = all-entries (empty_set k) es ∙ ap (λ (r : List Entry). fed_list larger (empty_set k).k es r) (entries_none k) in
+    sorted larger larger-through d (entries_of (fed_all (empty_set k) es)) i j (grown-order k es)
+    (ap (all_of held_e) e ∙ fed-list-all (empty_set k).k es [] a refl) h l

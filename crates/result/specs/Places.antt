@@ -2,7 +2,7 @@
 use Rattle.std.specs.Prelude.{ℕ, zero, suc, ◌≤◌, ◌-◌, Bool, ◌≡◌, List, [], ◌∷◌, eqb, leb, get_or, Float}
 use Rattle.std.specs.Float.{nan}
 use Rattle.paper.specs.Choice.{◌and◌}
-use Rattle.result.specs.Lists.{insertAt}
+use Rattle.result.specs.Lists.{insert_at}
 use Rattle.result.specs.Ranked.{Entry, entry, larger, placed}
 use Rattle.result.specs.declared.inner.Place.{Place}
 use Rattle.result.specs.declared.inner.Place.TheVariants.{At, Held}
@@ -16,7 +16,7 @@ entries (suc n) (i ∷ is) (s ∷ ss) = entry i s ∷ entries n is ss
 
 -- the list with the entry at the place
 abbrev pub put : Place → Entry → List Entry → List Entry
-put (At i) e xs = insertAt i e xs
+put (At i) e xs = insert_at i e xs
 put Held e xs = xs
 
 -- the place is within the list, or at its end
@@ -30,5 +30,5 @@ pub record Found (n : ℕ) (ids : List ℕ) (sims : List Float) (e : Entry) (p :
   pub same : put p e (entries n ids sims) ≡ placed larger e (entries n ids sims)
 
 -- whether a list of n is full and the last of its scores is greater than x
-abbrev pub fullAbove : ℕ → ℕ → List Float → Float → Bool
-fullAbove n k sims x = eqb n k and leb 1 n and larger (get_or sims (n - 1) nan) x
+abbrev pub full_above : ℕ → ℕ → List Float → Float → Bool
+full_above n k sims x = eqb n k and leb 1 n and larger (get_or sims (n - 1) nan) x

@@ -9,5 +9,5 @@ abbrev pub put_in : ResultSet → List Entry → ResultSet
 put_in s es = holding s (take s.k es)
 
 -- a set out of its parts
-abbrev pub setOf : List ℕ → List Float → ℕ → ℕ → ℕ → ResultSet
-setOf is ss n k c = record { ids = is; sims = ss; len = n; k = k; checked = c }
+abbrev pub set_of : List ℕ → List Float → ℕ → ℕ → ℕ → ResultSet
+set_of is ss n k c = record { ids = is; sims = ss; len = n; k = k; checked = c }

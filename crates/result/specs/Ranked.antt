@@ -13,8 +13,8 @@ abbrev pub entry : ℕ → Float → Entry
 entry id score = record { key = id; sim = score }
 
 -- an entry that a set may hold: its score is no NaN
-abbrev pub heldE : Entry → Bool
-heldE e = is_held e.sim
+abbrev pub held_e : Entry → Bool
+held_e e = is_held e.sim
 
 -- the one rule of ranking: the larger score goes first
 abbrev pub larger : Float → Float → Bool
@@ -26,29 +26,29 @@ placed before e [] = e ∷ []
 placed before e (x ∷ xs) = pick (eqb x.key e.key) (x ∷ xs) (pick (before e.sim x.sim) (e ∷ x ∷ xs) (x ∷ placed before e xs))
 
 -- whether the score of the list's last entry goes before the entry's
-abbrev pub lastBefore : (Float → Float → Bool) → Entry → List Entry → Bool
-lastBefore before e [] = false
-lastBefore before e (x ∷ []) = before x.sim e.sim
-lastBefore before e (x ∷ y ∷ ys) = lastBefore before e (y ∷ ys)
+abbrev pub last_before : (Float → Float → Bool) → Entry → List Entry → Bool
+last_before before e [] = false
+last_before before e (x ∷ []) = before x.sim e.sim
+last_before before e (x ∷ y ∷ ys) = last_before before e (y ∷ ys)
 
 -- a full list whose last score goes before the new one stays as it is
 abbrev pub stays : (Float → Float → Bool) → ℕ → Entry → List Entry → Bool
-stays before k e es = eqb (length es) k and lastBefore before e es
+stays before k e es = eqb (length es) k and last_before before e es
 
 -- the list of at most k after an entry is fed to it: the cut to k also says that an entry for the end joins only where there is room
 unfoldable pub fed : (Float → Float → Bool) → ℕ → Entry → List Entry → List Entry
 fed before k e es = pick (stays before k e es) es (take k (placed before e es))
 
 -- the same for entries in turn
-abbrev pub fedList : (Float → Float → Bool) → ℕ → List Entry → List Entry → List Entry
-fedList before k [] es = es
-fedList before k (x ∷ xs) es = fedList before k xs (fed before k x es)
+abbrev pub fed_list : (Float → Float → Bool) → ℕ → List Entry → List Entry → List Entry
+fed_list before k [] es = es
+fed_list before k (x ∷ xs) es = fed_list before k xs (fed before k x es)
 
 -- no entry's score goes before that of the one ahead of it: by the larger score first, scores never rise along the list
-unfoldable pub inOrder : (Float → Float → Bool) → List Entry → Bool
-inOrder before [] = true
-inOrder before (x ∷ []) = true
-inOrder before (x ∷ y ∷ ys) = not (before y.sim x.sim) and inOrder before (y ∷ ys)
+unfoldable pub in_order : (Float → Float → Bool) → List Entry → Bool
+in_order before [] = true
+in_order before (x ∷ []) = true
+in_order before (x ∷ y ∷ ys) = not (before y.sim x.sim) and in_order before (y ∷ ys)
 
 -- ---- what a comparison has to be for the laws
 

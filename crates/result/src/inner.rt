@@ -1,10 +1,10 @@
 // Making and feeding with no test, for callers that know that k is at most 256 and that the set is well formed.
 ghost use Rattle.std.specs.Prelude.{◌≡◌, ◌++◌, ◌≤◌, ◌<◌, drop, take, length};
-ghost use Rattle.result.specs.Lists.{insertAt};
+ghost use Rattle.result.specs.Lists.{insert_at};
 ghost use Rattle.result.specs.Ranked.{entry};
-ghost use Rattle.result.specs.Places.{Found, entries, fullAbove};
-ghost use Rattle.result.specs.Sets.{emptySet, fedSet};
-ghost use Rattle.result.specs.Puts.{put_in, setOf};
+ghost use Rattle.result.specs.Places.{Found, entries, full_above};
+ghost use Rattle.result.specs.Sets.{empty_set, fed_set};
+ghost use Rattle.result.specs.Puts.{put_in, set_of};
 
 use super::ResultSet;
 
@@ -18,7 +18,7 @@ enum Place {
 // An empty set for at most k entries.
 pub fn empty(k: usize) -> ResultSet
     requires { k ≤ 256 }
-    ensures { result ≡ emptySet k }
+    ensures { result ≡ empty_set k }
 {
     let ids = [0u32; 256];
     let sims = [0.0f32; 256];
@@ -35,7 +35,7 @@ pub fn empty(k: usize) -> ResultSet
 // need only raise checked; what the list is closed to once, it stays closed to.
 pub fn closed_to(sims: &[f32], len: usize, k: usize, similarity: f32) -> bool
     requires { len ≤ length sims.now }
-    ensures { result ≡ fullAbove len k sims.now similarity }
+    ensures { result ≡ full_above len k sims.now similarity }
 {
     if len != k {
         return false;
@@ -69,7 +69,7 @@ fn place_of<'a>(ids: &'a [u32], sims: &'a [f32], len: usize, id: u32, similarity
 fn push_id(ids: &mut [u32; 256], at: usize, to: usize, x: u32)
     requires at_lt_to { (at < to) × (to ≤ 256) }
     requires ids_len { length ids.old ≡ 256 }
-    ensures { ids.new ≡ take to (insertAt at x ids.old) ++ drop to ids.old }
+    ensures { ids.new ≡ take to (insert_at at x ids.old) ++ drop to ids.old }
 {
     let mut carry = x;
     let mut j = at;
@@ -85,7 +85,7 @@ fn push_id(ids: &mut [u32; 256], at: usize, to: usize, x: u32)
 fn push_sim(sims: &mut [f32; 256], at: usize, to: usize, x: f32)
     requires at_lt_to { (at < to) × (to ≤ 256) }
     requires sims_len { length sims.old ≡ 256 }
-    ensures { sims.new ≡ take to (insertAt at x sims.old) ++ drop to sims.old }
+    ensures { sims.new ≡ take to (insert_at at x sims.old) ++ drop to sims.old }
 {
     let mut carry = x;
     let mut j = at;
@@ -109,7 +109,7 @@ fn put(
 ) -> usize
     requires len_le_k { (len ≤ k) × (k ≤ 256) × (at ≤ len) }
     requires ids_len { (length ids.old ≡ 256) × (length sims.old ≡ 256) }
-    ensures { setOf ids.new sims.new result k 1 ≡ put_in (setOf ids.old sims.old len k 1) (insertAt at (entry id similarity) (entries len ids.old sims.old)) }
+    ensures { set_of ids.new sims.new result k 1 ≡ put_in (set_of ids.old sims.old len k 1) (insert_at at (entry id similarity) (entries len ids.old sims.old)) }
 {
     if len < k {
         push_id(ids, at, len + 1, id);
@@ -136,7 +136,7 @@ pub fn insert(
 ) -> usize
     requires len_le_k { (len ≤ k) × (k ≤ 256) }
     requires ids_len { (length ids.old ≡ 256) × (length sims.old ≡ 256) }
-    ensures { setOf ids.new sims.new result k 1 ≡ fedSet (setOf ids.old sims.old len k 0) (entry id similarity) }
+    ensures { set_of ids.new sims.new result k 1 ≡ fed_set (set_of ids.old sims.old len k 0) (entry id similarity) }
 {
     if closed_to(sims, len, k, similarity) {
         return len;
@@ -151,7 +151,7 @@ pub fn insert(
 pub fn ranked(set: ResultSet, id: u32, similarity: f32) -> ResultSet
     requires len_le_k { (set.len ≤ set.k) × (set.k ≤ 256) }
     requires checked_bound { set.checked < 4294967295 }
-    ensures { result ≡ fedSet set (entry id similarity) }
+    ensures { result ≡ fed_set set (entry id similarity) }
 {
     let k = set.k;
     let checked = set.checked + 1;

@@ -2,10 +2,10 @@
 #![tactic(auto)]
 
 ghost use Rattle.std.specs.Prelude.{◌≡◌, ◌≤◌, min, eqb, drop, take, length};
-ghost use Rattle.result.specs.Lists.{all_of, is_zero, isBlank, is_held};
-ghost use Rattle.result.specs.Sets.{made_of, wellFormed, entriesOf, feedOf};
+ghost use Rattle.result.specs.Lists.{all_of, is_zero, is_blank, is_held};
+ghost use Rattle.result.specs.Sets.{made_of, well_formed, entries_of, feed_of};
 ghost use Rattle.result.specs.Reads.{ListedIs};
-ghost use Rattle.result.specs.Recalls.{count_of, pairsOf, toldBy, recallOf};
+ghost use Rattle.result.specs.Recalls.{count_of, pairs_of, told_by, recall_of};
 ghost use Rattle.result.specs.Laws.{Laws};
 
 pub mod inner;
@@ -82,7 +82,7 @@ fn sims_held(sims: &[f32], n: usize) -> bool
 
 // Whether every bit of every score from `from` on is zero. A NaN has bits, and the test for it comes first.
 fn sims_blank(sims: &[f32], from: usize) -> bool
-    ensures { result ≡ all_of isBlank (drop from sims.now) }
+    ensures { result ≡ all_of is_blank (drop from sims.now) }
 {
     let mut i = from;
     while i < sims.len() {
@@ -118,7 +118,7 @@ fn count_in(ids: &[u32], n: usize, x: u32) -> u32
 fn pairs_in<'a>(a: &'a [u32], n: usize, b: &'a [u32], m: usize) -> u32
     requires n_in_bounds { (n ≤ length a.now) × (n ≤ 256) }
     requires m_in_bounds { (m ≤ length b.now) × (m ≤ 256) }
-    ensures { result ≡ pairsOf (take n a.now) (take m b.now) }
+    ensures { result ≡ pairs_of (take n a.now) (take m b.now) }
 {
     let mut found: u32 = 0;
     let mut i = 0;
@@ -156,7 +156,7 @@ impl ResultSet {
 
     // Whether the set is well formed.
     pub fn well_formed(self) -> bool
-        ensures { result ≡ wellFormed self }
+        ensures { result ≡ well_formed self }
     {
         let len = self.len;
         if 256 < self.k {
@@ -191,7 +191,7 @@ impl ResultSet {
     // Entry i of the list, counted from 0, and Past where the list has no entry i. Refuses nothing: of a set that isn't well formed it reads
     // what stands in the first len places of its arrays.
     pub fn result_at(self, i: usize) -> Listed
-        ensures { ListedIs (entriesOf self) i result }
+        ensures { ListedIs (entries_of self) i result }
     {
         if self.len <= i {
             return Listed::Past;
@@ -208,7 +208,7 @@ impl ResultSet {
     // smaller score, or to the end, and the list is cut to k. Either way it is counted. Refuses 13 for a set that isn't well formed, 10 for a
     // NaN and 12 for a full count, and hands a refused set back as it came.
     pub fn feed(mut self, id: u32, similarity: f32) -> Fed
-        ensures { result ≡ feedOf self id similarity }
+        ensures { result ≡ feed_of self id similarity }
     {
         if !self.well_formed() {
             return Fed {
@@ -237,7 +237,7 @@ impl ResultSet {
 
     // The same for a set that stays with the caller and is fed in place: the refusal's number comes back, 0 for none.
     pub fn add_result(&mut self, id: u32, similarity: f32) -> u32
-        ensures { (result ≡ (feedOf self.old id similarity).refusal) × (self.new ≡ (feedOf self.old id similarity).set) }
+        ensures { (result ≡ (feed_of self.old id similarity).refusal) × (self.new ≡ (feed_of self.old id similarity).set) }
     {
         let fed = (*self).feed(id, similarity);
         *self = fed.set;
@@ -247,7 +247,7 @@ impl ResultSet {
     // How many pairs the first `at` entries of the two lists have with one id, over `at`, all as f64. Refuses 13 where either set isn't well formed,
     // then 14 for an `at` of 0; a refused recall tells +0.0.
     pub fn compute_recall(self, baseline: ResultSet, at: u32) -> Recall
-        ensures { toldBy result ≡ recallOf self baseline at }
+        ensures { told_by result ≡ recall_of self baseline at }
     {
         if !self.well_formed() {
             return Recall::BadSet;

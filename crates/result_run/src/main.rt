@@ -9,8 +9,8 @@
 #![tactic(auto)]
 
 ghost use Rattle.std.specs.Prelude.{◌≡◌, ◌<◌};
-ghost use Rattle.result.specs.Sets.{feedOf};
-ghost use Rattle.result.specs.Recalls.{toldBy};
+ghost use Rattle.result.specs.Sets.{feed_of};
+ghost use Rattle.result.specs.Recalls.{told_by};
 
 use result::{Fed, Listed, Recall, ResultSet, SearchResult};
 
@@ -88,7 +88,7 @@ fn show(set: ResultSet) {
 
 // One feed of a set that stays in a local and is lent.
 fn fed_in_place(set: ResultSet, id: u32, similarity: f32) -> Fed
-    ensures { result ≡ feedOf set id similarity }
+    ensures { result ≡ feed_of set id similarity }
 {
     let mut kept = set;
     let refusal = kept.add_result(id, similarity);
@@ -97,7 +97,7 @@ fn fed_in_place(set: ResultSet, id: u32, similarity: f32) -> Fed
 
 // One feed, by value or in place.
 fn fed(set: ResultSet, id: u32, similarity: f32, in_place: bool) -> Fed
-    ensures { result ≡ feedOf set id similarity }
+    ensures { result ≡ feed_of set id similarity }
 {
     if in_place {
         return fed_in_place(set, id, similarity);
@@ -139,7 +139,7 @@ fn show_grown(f: Fed) {
 
 // The refusal of a recall, and 0 for none.
 fn refusal_of(r: Recall) -> u32
-    ensures { result ≡ (toldBy r).number }
+    ensures { result ≡ (told_by r).number }
 {
     match r {
         Recall::Share(_) => 0,

@@ -11,23 +11,23 @@ use Rattle.lines.specs.declared.Told.TheVariants as Says
 use Rattle.steps.specs.Steps.{State, step_of}
 use Rattle.session.specs.declared.Frame.{Frame}
 use Rattle.session.specs.declared.Frame.TheVariants.{Whole, Bad, Part}
-use Rattle.session.specs.Runs.{frame_of, recordOf, endText, go, runTo, run}
+use Rattle.session.specs.Runs.{frame_of, record_of, end_text, go, run_to, run}
 use Rattle.session.proofs.Frames.{framed, framed-back, framed-more, bad_more}
 
 -- ---- a run does not depend on its bound
 
 go-enough : (f : Frame) (j k : ℕ) (s : List ℕ) (st : State) → frame_of s ≡ f → length s < suc j → length s < suc k
-    → ((t : List ℕ) (u : State) → length t < j → length t < k → runTo j t u ≡ runTo k t u) → go f (runTo j) s st ≡ go f (runTo k) s st
+    → ((t : List ℕ) (u : State) → length t < j → length t < k → run_to j t u ≡ run_to k t u) → go f (run_to j) s st ≡ go f (run_to k) s st
 go-enough Bad j k s st e h i again = refl
 go-enough Part j k s st e h i again = refl
 go-enough (Whole n) j k s st e h i again =
     let f = framed s n e in
     let l : length (drop (4 + n) s) ≡ length s - (4 + n) = length-drop (4 + n) s in
-    let o = step_of (recordOf n s) st in
+    let o = step_of (record_of n s) st in
     ap (λ (t : List ℕ). o.0 ++ t) (again (drop (4 + n) s) o.1 (omega (arith, f.long, l)) (omega (arith, f.long, l)))
 
-run-enough : (j k : ℕ) (s : List ℕ) (st : State) → length s < j → length s < k → runTo j s st ≡ runTo k s st
-unfolding runTo
+run-enough : (j k : ℕ) (s : List ℕ) (st : State) → length s < j → length s < k → run_to j s st ≡ run_to k s st
+unfolding run_to
 run-enough zero k s st h i = absurd (not-suc-le-zero h)
 run-enough (suc j) zero s st h i = absurd (not-suc-le-zero i)
 run-enough (suc j) (suc k) s st h i = go-enough (frame_of s) j k s st refl h i (λ t u a b. run-enough j k t u a b)
@@ -35,31 +35,31 @@ run-enough (suc j) (suc k) s st h i = go-enough (frame_of s) j k s st refl h i (
 -- ---- how a run goes on
 
 pub run-whole : (s more : List ℕ) (n : ℕ) (st : State) → frame_of s ≡ Whole n
-    → run (s ++ more) st ≡ (step_of (recordOf n s) st).0 ++ run (drop (4 + n) s ++ more) (step_of (recordOf n s) st).1
-unfolding run runTo
+    → run (s ++ more) st ≡ (step_of (record_of n s) st).0 ++ run (drop (4 + n) s ++ more) (step_of (record_of n s) st).1
+unfolding run run_to
 run-whole s more n st e =
     let f = framed s n e in
     let l : length (drop (4 + n) s ++ more) ≡ length s - (4 + n) + length more = length-append (drop (4 + n) s) more ∙ ap (λ (k : ℕ). k + length more) (length-drop (4 + n) s) in
     let m : length (s ++ more) ≡ length s + length more = length-append s more in
     let h : 4 + n ≤ length s = f.long in
     rw (framed-back (s ++ more) n (framed-more s more n f), drop-append-le (4 + n) s more h, drop-append-le 4 s more (omega arith), take-append-le n (drop 4 s) more (simp length-drop (omega arith)))
-    (ap (λ (t : List ℕ). (step_of (recordOf n s) st).0 ++ t)
-    (run-enough (length (s ++ more)) (suc (length (drop (4 + n) s ++ more))) (drop (4 + n) s ++ more) (step_of (recordOf n s) st).1 (omega arith) (omega arith)))
+    (ap (λ (t : List ℕ). (step_of (record_of n s) st).0 ++ t)
+    (run-enough (length (s ++ more)) (suc (length (drop (4 + n) s ++ more))) (drop (4 + n) s ++ more) (step_of (record_of n s) st).1 (omega arith) (omega arith)))
 
 pub run-bad : (s more : List ℕ) (st : State) → frame_of s ≡ Bad → run (s ++ more) st ≡ told (Says.Refused 15)
-unfolding run runTo
+unfolding run run_to
 run-bad s more st e = rw (bad_more s more e) refl
 
-pub run_end : (s : List ℕ) (st : State) → frame_of s ≡ Part → run s st ≡ endText s
-unfolding run runTo
+pub run_end : (s : List ℕ) (st : State) → frame_of s ≡ Part → run s st ≡ end_text s
+unfolding run run_to
 run_end s st e = rw e refl
 
 -- ---- the end of the input
 
-pub none_left : (l s : List ℕ) → length s ≡ 0 → Put l l 0 0 (endText s)
+pub none_left : (l s : List ℕ) → length s ≡ 0 → Put l l 0 0 (end_text s)
 none_left l [] e = record { next = refl; stored = refl }
 none_left l (b ∷ s) e = let no : ⊥ = omega arith in absurd no
 
-pub some_left : (s : List ℕ) → (length s ≡ 0 → ⊥) → told (Says.Refused 15) ≡ endText s
+pub some_left : (s : List ℕ) → (length s ≡ 0 → ⊥) → told (Says.Refused 15) ≡ end_text s
 some_left [] n = absurd (n refl)
 some_left (b ∷ s) n = refl

@@ -17,7 +17,7 @@ use Rattle.steps.specs.Steps.{State, step_of}
 use Rattle.steps.proofs.Cases.{step-short}
 use Rattle.session.specs.declared.Frame.{Frame}
 use Rattle.session.specs.declared.Frame.TheVariants.{Whole, Bad, Part}
-use Rattle.session.specs.Runs.{frame_of, recordOf, run, Far, fed, turn, feedTo, feedOf}
+use Rattle.session.specs.Runs.{frame_of, record_of, run, Far, fed, turn, feed_to, feed_of}
 use Rattle.session.specs.Played.{shown, left, joined, Played, stopped, emptied, refilled, ended}
 use Rattle.session.proofs.Frames.{framed}
 use Rattle.session.proofs.Runs.{run-whole, run-bad, run_end}
@@ -68,12 +68,12 @@ module _ (s : List ℕ) (i p : ℕ) (st : State) (out : List ℕ) where
       }
 
   passes : (n : ℕ) (f : Far) → frame_of s ≡ Whole n → p + 5184 ≤ length out
-      → From (drop (4 + n) s) (i + (4 + n)) (p + length (step_of (recordOf n s) st).0) (step_of (recordOf n s) st).1 (sets out p (step_of (recordOf n s) st).0) f
+      → From (drop (4 + n) s) (i + (4 + n)) (p + length (step_of (record_of n s) st).0) (step_of (record_of n s) st).1 (sets out p (step_of (record_of n s) st).0) f
       → From s i p st out f
   passes n f e h k =
-      let o = step_of (recordOf n s) st in
+      let o = step_of (record_of n s) st in
       let long : 4 + n ≤ length s = (framed s n e).long in
-      let short : length o.0 ≤ 5184 = step-short (recordOf n s) st in
+      let short : length o.0 ≤ 5184 = step-short (record_of n s) st in
       let d : length (drop (4 + n) s) ≡ length s - (4 + n) = length-drop (4 + n) s in
       let l : i + (4 + n) ≤ f.used = k.low in
       let u : f.used ≤ i + (4 + n) + length (drop (4 + n) s) = k.high in
@@ -94,27 +94,27 @@ module _ (s : List ℕ) (i p : ℕ) (st : State) (out : List ℕ) where
       gap : (n u : ℕ) → i + (4 + n) ≤ u → 4 + n + (u - (i + (4 + n))) ≡ u - i
       gap n u h = omega arith
 
-fed-from : (k : ℕ) (s : List ℕ) (i p : ℕ) (st : State) (out : List ℕ) → length s < k → p ≤ length out → From s i p st out (feedTo k s i p st out)
-unfolding feedTo
+fed-from : (k : ℕ) (s : List ℕ) (i p : ℕ) (st : State) (out : List ℕ) → length s < k → p ≤ length out → From s i p st out (feed_to k s i p st out)
+unfolding feed_to
 fed-from zero s i p st out h l = absurd (not-suc-le-zero h)
 fed-from (suc k) s i p st out h l = by-room (ltb (length out - p) 5184) refl (λ t a b u o x y. fed-from k t a b u o x y)
   where
     by-frame : (f : Frame) → frame_of s ≡ f → p + 5184 ≤ length out
-        → ((t : List ℕ) (a b : ℕ) (u : State) (o : List ℕ) → length t < k → b ≤ length o → From t a b u o (feedTo k t a b u o))
-        → From s i p st out (turn f (feedTo k) s i p st out)
+        → ((t : List ℕ) (a b : ℕ) (u : State) (o : List ℕ) → length t < k → b ≤ length o → From t a b u o (feed_to k t a b u o))
+        → From s i p st out (turn f (feed_to k) s i p st out)
     by-frame Part e r again = rests s i p st out true l (λ _. e)
     by-frame Bad e r again = fails s i p st out e (omega arith)
     by-frame (Whole n) e r again =
-        let o = step_of (recordOf n s) st in
+        let o = step_of (record_of n s) st in
         let long : 4 + n ≤ length s = (framed s n e).long in
         let d : length (drop (4 + n) s) ≡ length s - (4 + n) = length-drop (4 + n) s in
-        let short : length o.0 ≤ 5184 = step-short (recordOf n s) st in
+        let short : length o.0 ≤ 5184 = step-short (record_of n s) st in
         let m : length (sets out p o.0) ≡ length out = length-sets out p o.0 in
         passes s i p st out n _ e r (again (drop (4 + n) s) (i + (4 + n)) (p + length o.0) o.1 (sets out p o.0) (omega arith) (omega arith))
 
     by-room : (b : Bool) → ltb (length out - p) 5184 ≡ b
-        → ((t : List ℕ) (a b : ℕ) (u : State) (o : List ℕ) → length t < k → b ≤ length o → From t a b u o (feedTo k t a b u o))
-        → From s i p st out (pick b (fed st i p false false out) (turn (frame_of s) (feedTo k) s i p st out))
+        → ((t : List ℕ) (a b : ℕ) (u : State) (o : List ℕ) → length t < k → b ≤ length o → From t a b u o (feed_to k t a b u o))
+        → From s i p st out (pick b (fed st i p false false out) (turn (frame_of s) (feed_to k) s i p st out))
     by-room true e again = rests s i p st out false l (λ no. impossible no)
     by-room false e again = by-frame (frame_of s) refl (omega (arith, ltb-false (length out - p) 5184 e)) again
 
@@ -128,10 +128,10 @@ pub record Run (input : List ℕ) (st : State) (f : Far) : Type 0 where
   pub goes : f.stops ≡ false → (more : List ℕ) → run (input ++ more) st ≡ shown f ++ run (left f input ++ more) f.state
   pub waits : f.waits ≡ true → frame_of (left f input) ≡ Part
 
-pub fed-run : (input : List ℕ) (st : State) (out : List ℕ) → Run input st (feedOf input st out)
-unfolding feedOf
+pub fed-run : (input : List ℕ) (st : State) (out : List ℕ) → Run input st (feed_of input st out)
+unfolding feed_of
 fed-run input st out =
-    let f = feedTo (suc (length input)) input 0 0 st out in
+    let f = feed_to (suc (length input)) input 0 0 st out in
     let k : From input 0 0 st out f = fed-from (suc (length input)) input 0 0 st out (omega arith) (omega arith) in
     let u : f.used ≤ 0 + length input = k.high in
     let z : f.used - 0 ≡ f.used = sub-zero f.used in
@@ -144,7 +144,7 @@ fed-run input st out =
     }
 
 -- the same of an answer of feed
-pub ran : (input : List ℕ) (st : State) (out : List ℕ) (f : Far) → f ≡ feedOf input st out → Run input st f
+pub ran : (input : List ℕ) (st : State) (out : List ℕ) (f : Far) → f ≡ feed_of input st out → Run input st f
 ran input st out f e = subst (λ (x : Far). Run input st x) (sym e) (fed-run input st out)
 
 -- ---- a whole run
@@ -152,14 +152,14 @@ ran input st out f e = subst (λ (x : Far). Run input st x) (sym e) (fed-run inp
 pub whole : (pending : List ℕ) (st : State) (reads : List (List ℕ)) (text : List ℕ) → Played pending st reads text → text ≡ run (pending ++ joined reads) st
 whole pending st reads text (stopped _ _ _ out e) = sym ((fed-run pending st out).stopped e (joined reads))
 whole pending st reads text (emptied _ _ _ out t e w q) =
-    let f = feedOf pending st out in
+    let f = feed_of pending st out in
     ap (λ (x : List ℕ). shown f ++ x) (whole (left f pending) f.state reads t q) ∙ sym ((fed-run pending st out).goes e (joined reads))
 whole pending st reads text (refilled _ _ r rs out t e w q) =
-    let f = feedOf pending st out in
+    let f = feed_of pending st out in
     ap (λ (x : List ℕ). shown f ++ x) (whole (left f pending ++ r) f.state rs t q ∙ ap (λ (x : List ℕ). run x f.state) (append_assoc (left f pending) r (joined rs)))
     ∙ sym ((fed-run pending st out).goes e (r ++ joined rs))
 whole pending st reads text (ended _ _ out e w) =
-    let f = feedOf pending st out in
+    let f = feed_of pending st out in
     ap (λ (x : List ℕ). shown f ++ x) (sym (run_end (left f pending) f.state ((fed-run pending st out).waits w)) ∙ ap (λ (x : List ℕ). run x f.state) (sym (append-nil (left f pending))))
     ∙ sym ((fed-run pending st out).goes e [])
 
@@ -170,25 +170,25 @@ any-cut st reads reads' text text' e p q = whole [] st reads text p ∙ ap (λ (
 -- ---- a run comes to its end
 
 turn-moves : (f : Frame) (input : List ℕ) (st : State) (out : List ℕ) → frame_of input ≡ f → 5184 ≤ length out
-    → (turn f (feedTo (length input)) input 0 0 st out).stops ≡ false → (turn f (feedTo (length input)) input 0 0 st out).waits ≡ false
-    → 0 < (turn f (feedTo (length input)) input 0 0 st out).used
+    → (turn f (feed_to (length input)) input 0 0 st out).stops ≡ false → (turn f (feed_to (length input)) input 0 0 st out).waits ≡ false
+    → 0 < (turn f (feed_to (length input)) input 0 0 st out).used
 turn-moves Part input st out e h s w = impossible (sym w)
 turn-moves Bad input st out e h s w = impossible (sym s)
 turn-moves (Whole n) input st out e h s w =
-    let o = step_of (recordOf n input) st in
+    let o = step_of (record_of n input) st in
     let long : 4 + n ≤ length input = (framed input n e).long in
     let d : length (drop (4 + n) input) ≡ length input - (4 + n) = length-drop (4 + n) input in
-    let short : length o.0 ≤ 5184 = step-short (recordOf n input) st in
+    let short : length o.0 ≤ 5184 = step-short (record_of n input) st in
     let m : length (sets out 0 o.0) ≡ length out = length-sets out 0 o.0 in
     let k = fed-from (length input) (drop (4 + n) input) (0 + (4 + n)) (0 + length o.0) o.1 (sets out 0 o.0) (omega arith) (omega arith) in
     omega (arith, k.low)
 
 -- a call that neither stops nor waits has used something, if its buffer has room for an answer
-pub moves : (input : List ℕ) (st : State) (out : List ℕ) → 5184 ≤ length out → (feedOf input st out).stops ≡ false → (feedOf input st out).waits ≡ false
-    → 0 < (feedOf input st out).used
-unfolding feedOf feedTo
+pub moves : (input : List ℕ) (st : State) (out : List ℕ) → 5184 ≤ length out → (feed_of input st out).stops ≡ false → (feed_of input st out).waits ≡ false
+    → 0 < (feed_of input st out).used
+unfolding feed_of feed_to
 moves input st out h s w =
-    let e : feedOf input st out ≡ turn (frame_of input) (feedTo (length input)) input 0 0 st out = rw (le-ltb (length out - 0) 5184 (omega arith)) refl in
+    let e : feed_of input st out ≡ turn (frame_of input) (feed_to (length input)) input 0 0 st out = rw (le-ltb (length out - 0) 5184 (omega arith)) refl in
     subst (λ (f : Far). 0 < f.used) (sym e)
     (turn-moves (frame_of input) input st out refl h (subst (λ (f : Far). f.stops ≡ false) e s) (subst (λ (f : Far). f.waits ≡ false) e w))
 
@@ -198,13 +198,13 @@ module _ (pending : List ℕ) (st : State) (out : List ℕ) where
   prints : (reads : List (List ℕ)) (text text' : List ℕ) → text ≡ text' → Played pending st reads text → Played pending st reads text'
   prints reads text text' e p = subst (λ (x : List ℕ). Played pending st reads x) e p
 
-  plays-by : (s w : Bool) (reads : List (List ℕ)) (k : ℕ) → 5184 ≤ length out → (feedOf pending st out).stops ≡ s → (feedOf pending st out).waits ≡ w
+  plays-by : (s w : Bool) (reads : List (List ℕ)) (k : ℕ) → 5184 ≤ length out → (feed_of pending st out).stops ≡ s → (feed_of pending st out).waits ≡ w
       → length pending + length (joined reads) + length reads < suc k
       → ((p : List ℕ) (t : State) (r : List (List ℕ)) → length p + length (joined r) + length r < k → Played p t r (run (p ++ joined r) t))
       → Played pending st reads (run (pending ++ joined reads) st)
   plays-by true w reads k h es ew m again = prints reads _ _ (sym ((fed-run pending st out).stopped es (joined reads))) (stopped pending st reads out es)
   plays-by false false reads k h es ew m again =
-      let f = feedOf pending st out in
+      let f = feed_of pending st out in
       let n : 0 < f.used = moves pending st out h es ew in
       let d : length (left f pending) ≡ length pending - f.used = length-drop f.used pending in
       let u : f.used ≤ length pending = (fed-run pending st out).used in
@@ -213,7 +213,7 @@ module _ (pending : List ℕ) (st : State) (out : List ℕ) where
       let p = ended pending st out es ew in
       prints [] _ _ (whole pending st [] _ p) p
   plays-by false true (r ∷ rs) k h es ew m again =
-      let f = feedOf pending st out in
+      let f = feed_of pending st out in
       let d : length (left f pending) ≡ length pending - f.used = length-drop f.used pending in
       let a : length (left f pending ++ r) ≡ length (left f pending) + length r = length-append (left f pending) r in
       let b : length (r ++ joined rs) ≡ length r + length (joined rs) = length-append r (joined rs) in
@@ -224,7 +224,7 @@ plays-to : (k : ℕ) (pending : List ℕ) (st : State) (reads : List (List ℕ))
     → Played pending st reads (run (pending ++ joined reads) st)
 plays-to zero pending st reads out h l = absurd (not-suc-le-zero l)
 plays-to (suc k) pending st reads out h l =
-    plays-by pending st out (feedOf pending st out).stops (feedOf pending st out).waits reads k h refl refl l (λ p s r m. plays-to k p s r out h m)
+    plays-by pending st out (feed_of pending st out).stops (feed_of pending st out).waits reads k h refl refl l (λ p s r m. plays-to k p s r out h m)
 
 pub plays : (st : State) (reads : List (List ℕ)) (out : List ℕ) → 5184 ≤ length out → Played [] st reads (run (joined reads) st)
 plays st reads out h = plays-to (suc (length (joined reads) + length reads)) [] st reads out h (omega arith)

@@ -1,7 +1,7 @@
 -- What the program does with feed, however its input comes in: the reads are the pieces of input that are still to come.
 use Rattle.std.specs.Prelude.{◌≡◌, true, false, List, [], ◌∷◌, ◌++◌, ℕ, take, drop}
 use Rattle.steps.specs.Steps.{State}
-use Rattle.session.specs.Runs.{Far, feedOf, endText}
+use Rattle.session.specs.Runs.{Far, feed_of, end_text}
 
 -- the bytes that a call of feed has put
 abbrev pub shown : Far → List ℕ
@@ -20,11 +20,11 @@ joined (r ∷ rs) = r ++ joined rs
 -- feed has put. Where feed stops, it ends. Where feed waits, it reads the next piece behind what is left, or ends with what the end prints.
 -- Else the buffer was full, and it calls feed again.
 pub data Played : List ℕ → State → List (List ℕ) → List ℕ → Type 0 where
-  stopped : (pending : List ℕ) (st : State) (reads : List (List ℕ)) (out : List ℕ) → (feedOf pending st out).stops ≡ true
-      → Played pending st reads (shown (feedOf pending st out))
-  emptied : (pending : List ℕ) (st : State) (reads : List (List ℕ)) (out text : List ℕ) → (feedOf pending st out).stops ≡ false → (feedOf pending st out).waits ≡ false
-      → Played (left (feedOf pending st out) pending) (feedOf pending st out).state reads text → Played pending st reads (shown (feedOf pending st out) ++ text)
-  refilled : (pending : List ℕ) (st : State) (read : List ℕ) (reads : List (List ℕ)) (out text : List ℕ) → (feedOf pending st out).stops ≡ false → (feedOf pending st out).waits ≡ true
-      → Played (left (feedOf pending st out) pending ++ read) (feedOf pending st out).state reads text → Played pending st (read ∷ reads) (shown (feedOf pending st out) ++ text)
-  ended : (pending : List ℕ) (st : State) (out : List ℕ) → (feedOf pending st out).stops ≡ false → (feedOf pending st out).waits ≡ true
-      → Played pending st [] (shown (feedOf pending st out) ++ endText (left (feedOf pending st out) pending))
+  stopped : (pending : List ℕ) (st : State) (reads : List (List ℕ)) (out : List ℕ) → (feed_of pending st out).stops ≡ true
+      → Played pending st reads (shown (feed_of pending st out))
+  emptied : (pending : List ℕ) (st : State) (reads : List (List ℕ)) (out text : List ℕ) → (feed_of pending st out).stops ≡ false → (feed_of pending st out).waits ≡ false
+      → Played (left (feed_of pending st out) pending) (feed_of pending st out).state reads text → Played pending st reads (shown (feed_of pending st out) ++ text)
+  refilled : (pending : List ℕ) (st : State) (read : List ℕ) (reads : List (List ℕ)) (out text : List ℕ) → (feed_of pending st out).stops ≡ false → (feed_of pending st out).waits ≡ true
+      → Played (left (feed_of pending st out) pending ++ read) (feed_of pending st out).state reads text → Played pending st (read ∷ reads) (shown (feed_of pending st out) ++ text)
+  ended : (pending : List ℕ) (st : State) (out : List ℕ) → (feed_of pending st out).stops ≡ false → (feed_of pending st out).waits ≡ true
+      → Played pending st [] (shown (feed_of pending st out) ++ end_text (left (feed_of pending st out) pending))

@@ -19,30 +19,30 @@ frame_of s =
     (pick (ltb (length s - 4) (u32_at s 0)) Part (Whole (u32_at s 0)))))
 
 -- the n bytes behind the length
-abbrev pub recordOf : ℕ → List ℕ → List ℕ
-recordOf n s = take n (drop 4 s)
+abbrev pub record_of : ℕ → List ℕ → List ℕ
+record_of n s = take n (drop 4 s)
 
 -- ---- a run
 
 -- what is left where the input ends: nothing, or a cut record
-abbrev pub endText : List ℕ → List ℕ
-endText [] = []
-endText (b ∷ s) = told (Says.Refused 15)
+abbrev pub end_text : List ℕ → List ℕ
+end_text [] = []
+end_text (b ∷ s) = told (Says.Refused 15)
 
 -- a whole record prints what it comes to, and the run goes on behind it; a bad frame and the end stop the run
 abbrev pub go : Frame → (List ℕ → State → List ℕ) → List ℕ → State → List ℕ
-go (Whole n) rest s st = let o = step_of (recordOf n s) st in o.0 ++ rest (drop (4 + n) s) o.1
+go (Whole n) rest s st = let o = step_of (record_of n s) st in o.0 ++ rest (drop (4 + n) s) o.1
 go Bad rest s st = told (Says.Refused 15)
-go Part rest s st = endText s
+go Part rest s st = end_text s
 
 -- at most k records
-unfoldable pub runTo : ℕ → List ℕ → State → List ℕ
-runTo zero s st = []
-runTo (suc k) s st = go (frame_of s) (runTo k) s st
+unfoldable pub run_to : ℕ → List ℕ → State → List ℕ
+run_to zero s st = []
+run_to (suc k) s st = go (frame_of s) (run_to k) s st
 
 -- all that a run over a whole input prints, from a state on: an input of n bytes has no more than n records
 unfoldable pub run : List ℕ → State → List ℕ
-run s st = runTo (suc (length s)) s st
+run s st = run_to (suc (length s)) s st
 
 -- all that the program prints for its input: the run from the state before the first record
 unfoldable pub printed : List ℕ → List ℕ
@@ -65,15 +65,15 @@ fed st i p stops waits out = record { state = st; used = i; put = p; stops = sto
 -- one turn, at the front of what is left of the input
 abbrev pub turn : Frame → (List ℕ → ℕ → ℕ → State → List ℕ → Far) → List ℕ → ℕ → ℕ → State → List ℕ → Far
 turn (Whole n) rest s i p st out =
-    let o = step_of (recordOf n s) st in
+    let o = step_of (record_of n s) st in
     rest (drop (4 + n) s) (i + (4 + n)) (p + length o.0) o.1 (sets out p o.0)
 turn Bad rest s i p st out = let t = told (Says.Refused 15) in fed st i (p + length t) true false (sets out p t)
 turn Part rest s i p st out = fed st i p false true out
 
 -- at most k records, with i bytes used and p put before; out wants room for the longest answer
-unfoldable pub feedTo : ℕ → List ℕ → ℕ → ℕ → State → List ℕ → Far
-feedTo zero s i p st out = fed st i p false false out
-feedTo (suc k) s i p st out = pick (ltb (length out - p) 5184) (fed st i p false false out) (turn (frame_of s) (feedTo k) s i p st out)
+unfoldable pub feed_to : ℕ → List ℕ → ℕ → ℕ → State → List ℕ → Far
+feed_to zero s i p st out = fed st i p false false out
+feed_to (suc k) s i p st out = pick (ltb (length out - p) 5184) (fed st i p false false out) (turn (frame_of s) (feed_to k) s i p st out)
 
-unfoldable pub feedOf : List ℕ → State → List ℕ → Far
-feedOf input st out = feedTo (suc (length input)) input 0 0 st out
+unfoldable pub feed_of : List ℕ → State → List ℕ → Far
+feed_of input st out = feed_to (suc (length input)) input 0 0 st out

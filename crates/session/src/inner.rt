@@ -1,8 +1,8 @@
 // A part of a run over lent memory, whose lengths the caller sees to; and the buffer that the input is read into.
 ghost use Rattle.std.specs.Prelude.{◌≡◌, ◌+◌, ◌-◌, ◌≤◌, length, take, drop};
-ghost use Rattle.steps.specs.Memory.{Memory, memoryOf};
+ghost use Rattle.steps.specs.Memory.{Memory, memory_of};
 ghost use Rattle.steps.specs.Steps.{state_of};
-ghost use Rattle.session.specs.Runs.{frame_of, fed, feedOf};
+ghost use Rattle.session.specs.Runs.{frame_of, fed, feed_of};
 
 use super::{Fed, Frame};
 use lines::Told;
@@ -39,8 +39,8 @@ pub fn feed(
     out: &mut [u8],
 ) -> Fed
     requires { Memory (length bases.old) (length faces.old) (length marks.old) (length vectors.old) }
-    ensures { fed (state_of result.session (memoryOf bases.new faces.new marks.new vectors.new)) result.used result.put result.stops result.waits out.new
-        ≡ feedOf input.now (state_of start (memoryOf bases.old faces.old marks.old vectors.old)) out.old }
+    ensures { fed (state_of result.session (memory_of bases.new faces.new marks.new vectors.new)) result.used result.put result.stops result.waits out.new
+        ≡ feed_of input.now (state_of start (memory_of bases.old faces.old marks.old vectors.old)) out.old }
 {
     let mut g = start;
     let mut i = 0;

@@ -4,7 +4,7 @@
 ghost use Rattle.std.specs.Prelude.{◌≡◌, replicate};
 ghost use Rattle.lines.specs.Lines.{Put};
 ghost use Rattle.steps.specs.Steps.{held};
-ghost use Rattle.session.specs.Runs.{endText, fed, feedOf};
+ghost use Rattle.session.specs.Runs.{end_text, fed, feed_of};
 ghost use Rattle.session.specs.Laws.{Laws};
 
 use lines::Told;
@@ -52,7 +52,7 @@ pub struct Last {
 // prints and stops the run for; where the rest of the input is no whole record, which it leaves; and where out has less room than the longest
 // answer of one record needs, 5,184 bytes. It refuses nothing by itself, and changes out only where it has put something.
 pub fn feed(input: &[u8], store: Store, out: &mut [u8]) -> Ran
-    ensures { fed (held result.store) result.used result.put result.stops result.waits out.new ≡ feedOf input.now (held store) out.old }
+    ensures { fed (held result.store) result.used result.put result.stops result.waits out.new ≡ feed_of input.now (held store) out.old }
 {
     let session = store.session;
     let mut bases = store.bases;
@@ -90,7 +90,7 @@ pub fn feed(input: &[u8], store: Store, out: &mut [u8]) -> Ran
 
 // What is printed where the input ends: nothing between records, and refused 15 for what is left of a record.
 pub fn finish(rest: &[u8]) -> Last
-    ensures { Put (replicate 64 0) result.text 0 result.len (endText rest.now) }
+    ensures { Put (replicate 64 0) result.text 0 result.len (end_text rest.now) }
 {
     let mut text = [0u8; 64];
     if rest.len() == 0 {

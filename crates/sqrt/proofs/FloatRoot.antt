@@ -12,7 +12,7 @@ use lib.Ieee.Fits.{down_pos}
 use lib.Ieee.Bits.{of_bits-to_bits, to_bits-lt}
 use borrow.Author.Tests.{le-leb, lt-leb}
 use Rattle.sqrt.specs.Root.{sized, mag, Near}
-use Rattle.sqrt.specs.RootOf.{rootOf, root}
+use Rattle.sqrt.specs.RootOf.{root_of, root}
 use Rattle.sqrt.specs.FloatRoot.{Sized, NearestRoot, IsRoot}
 use Rattle.sqrt.proofs.Near.{mag-mono, nearer-above, nearer-below}
 use Rattle.sqrt.proofs.Function.{root-of, root-finite}
@@ -145,12 +145,12 @@ module _ (x : Float) (f : T (fits binary32 x)) where
 -- ---- the root
 
 zero-root : (s : Bool) → root (fin s 0 (pos 0)) ≡ fin s 0 (pos 0)
-unfolding root rootOf to_bits of_bits
+unfolding root root_of to_bits of_bits
 zero-root true = refl
 zero-root false = refl
 
 minus-infinity : root (inf true) ≡ nan
-unfolding root rootOf to_bits of_bits
+unfolding root root_of to_bits of_bits
 minus-infinity = refl
 
 -- with the pattern b of x, and q of its root, as variables
@@ -174,14 +174,14 @@ unfolding root
 nearest-root x n f h v =
     let w = plus-bits x f n v in
     let o : 0 < to_bits binary32 x = above_zero (to_bits binary32 x) n w.1 h in
-    let k : rootOf (to_bits binary32 x) < 2139095040 = root-finite (to_bits binary32 x) o w.0 in
-    let g : Near (mag (to_bits binary32 x) * 2 ^ 149) (rootOf (to_bits binary32 x)) = ((root-of (to_bits binary32 x) (to_bits-lt binary32 x f)).root o w.0).1 in
+    let k : root_of (to_bits binary32 x) < 2139095040 = root-finite (to_bits binary32 x) o w.0 in
+    let g : Near (mag (to_bits binary32 x) * 2 ^ 149) (root_of (to_bits binary32 x)) = ((root-of (to_bits binary32 x) (to_bits-lt binary32 x f)).root o w.0).1 in
     record {
       fit = root-fits x;
-      size = mag (rootOf (to_bits binary32 x));
-      sized = value (rootOf (to_bits binary32 x)) k;
-      smaller = λ y p fy vy l. below-it (to_bits binary32 x) (rootOf (to_bits binary32 x)) n k g w.1 (to_bits binary32 y) p (plus-bits y fy p vy).1 l;
-      larger = λ y p fy vy l. above-it (to_bits binary32 x) (rootOf (to_bits binary32 x)) n k g w.1 (to_bits binary32 y) p (plus-bits y fy p vy).1 l;
+      size = mag (root_of (to_bits binary32 x));
+      sized = value (root_of (to_bits binary32 x)) k;
+      smaller = λ y p fy vy l. below-it (to_bits binary32 x) (root_of (to_bits binary32 x)) n k g w.1 (to_bits binary32 y) p (plus-bits y fy p vy).1 l;
+      larger = λ y p fy vy l. above-it (to_bits binary32 x) (root_of (to_bits binary32 x)) n k g w.1 (to_bits binary32 y) p (plus-bits y fy p vy).1 l;
     }
 
 negative-root : (x : Float) (n : ℕ) → T (fits binary32 x) → 0 < n → Sized x true n → root x ≡ nan

@@ -1,4 +1,4 @@
--- `rootOf` is the root that `Sqrt` says. Assumes nothing.
+-- `root_of` is the root that `Sqrt` says. Assumes nothing.
 use mathlib.Core.Path.{◌≡◌, refl, sym, ap, ◌∙◌}
 use mathlib.Core.Logic.{inl, inr}
 use mathlib.Core.Bool.{Bool, cond}
@@ -10,7 +10,7 @@ use lib.Dec.{leb, eqb}
 use lib.Count.{count_leading_zeros}
 use borrow.Author.Tests.{le-leb, lt-leb, lt-ltb, le-ltb, eq-eqb, ne_eqb}
 use Rattle.sqrt.specs.Root.{mag, Near, Sqrt}
-use Rattle.sqrt.specs.RootOf.{wholeRoot, rootScaled, rootFields, rootOf}
+use Rattle.sqrt.specs.RootOf.{whole_root, root_scaled, root_fields, root_of}
 use Rattle.sqrt.proofs.Near.{nearer-above, nearer-below, Scaling, scaling-bounds, rounded-near, is_zero, is-infinity, is-invalid, is-root, sqrt-unique, normal, subnormal, shift-up}
 
 -- ---- the whole root
@@ -38,12 +38,12 @@ module _ (n q : ℕ) (lo : q * q ≤ n / 4) (hi : n / 4 < (q + 1) * (q + 1)) whe
           let g : n < (q * 2 + 1) * (q * 2 + 1) = omega arith in
           rw f (low, g)
 
-pub whole : (k n : ℕ) → n < 4 ^ k → (wholeRoot k n * wholeRoot k n ≤ n) × (n < (wholeRoot k n + 1) * (wholeRoot k n + 1))
-unfolding wholeRoot
+pub whole : (k n : ℕ) → n < 4 ^ k → (whole_root k n * whole_root k n ≤ n) × (n < (whole_root k n + 1) * (whole_root k n + 1))
+unfolding whole_root
 whole zero n h = (omega arith, omega arith)
 whole (suc k) n h =
     let i = whole k (n / 4) ((div-lt_iff_lt-mul (zero-lt-suc 3)).1 (rw pow-suc at h)) in
-    one-digit n (wholeRoot k (n / 4)) i.0 i.1 (wholeRoot (suc k) n) refl
+    one-digit n (whole_root k (n / 4)) i.0 i.1 (whole_root (suc k) n) refl
 
 -- ---- a significand of 24 digits
 
@@ -65,34 +65,34 @@ near-at m h a r lo hi top s le lt = let n = rounded-near m h a lo hi s r le lt i
 small : (m h a : ℕ) → 8388608 ≤ m → m < 16777216 → Scaling m h a → a < 4 ^ 25
 small m h a lo hi s = omega (arith, scaling-bounds m h a lo hi s)
 
-scaled-near : (m h : ℕ) → 8388608 ≤ m → m < 16777216 → h ≤ 378 → (rootScaled m h < 2139095040) × Near (m * 2 ^ (h + 24)) (rootScaled m h)
-unfolding rootScaled
+scaled-near : (m h : ℕ) → 8388608 ≤ m → m < 16777216 → h ≤ 378 → (root_scaled m h < 2139095040) × Near (m * 2 ^ (h + 24)) (root_scaled m h)
+unfolding root_scaled
 scaled-near m h lo hi top =
     let a = m * cond (eqb (h % 2) 0) 67108864 33554432 in
     let w = whole 25 a (small m h a lo hi (scaling m h)) in
-    near-at m h a (wholeRoot 25 a) lo hi top (scaling m h) w.0 w.1
+    near-at m h a (whole_root 25 a) lo hi top (scaling m h) w.0 w.1
 
 -- ---- every pattern
 
-fields-root : (b x t : ℕ) → b / 8388608 ≡ x → b % 8388608 ≡ t → 0 < b → b < 2139095040 → Sqrt b (rootFields x t)
-unfolding rootFields
+fields-root : (b x t : ℕ) → b / 8388608 ≡ x → b % 8388608 ≡ t → 0 < b → b < 2139095040 → Sqrt b (root_fields x t)
+unfolding root_fields
 fields-root b zero t e f p l =
     let s = shift-up t (omega arith) (omega arith) in
     let z = count_leading_zeros 32 t in
     let r = scaled-near (t * 2 ^ (z - 8)) (125 - (z - 8)) s.large s.small (omega arith) in
-    is-root b (t * 2 ^ (z - 8) * 2 ^ (125 - (z - 8) + 24)) (rootScaled (t * 2 ^ (z - 8)) (125 - (z - 8))) p l (ap (λ (y : ℕ). y * 2 ^ 149) (subnormal b t e f) ∙ sym s.same) r.0 r.1
+    is-root b (t * 2 ^ (z - 8) * 2 ^ (125 - (z - 8) + 24)) (root_scaled (t * 2 ^ (z - 8)) (125 - (z - 8))) p l (ap (λ (y : ℕ). y * 2 ^ 149) (subnormal b t e f) ∙ sym s.same) r.0 r.1
 fields-root b (suc x) t e f p l =
     let r = scaled-near (t + 8388608) (suc x + 124) (omega arith) (omega arith) (omega arith) in
-    is-root b ((t + 8388608) * 2 ^ (suc x + 124 + 24)) (rootScaled (t + 8388608) (suc x + 124)) p l (normal b (suc x) t e f (omega arith)) r.0 r.1
+    is-root b ((t + 8388608) * 2 ^ (suc x + 124 + 24)) (root_scaled (t + 8388608) (suc x + 124)) p l (normal b (suc x) t e f (omega arith)) r.0 r.1
 
-pub root-of : (b : ℕ) → b < 4294967296 → Sqrt b (rootOf b)
-unfolding rootOf
+pub root-of : (b : ℕ) → b < 4294967296 → Sqrt b (root_of b)
+unfolding root_of
 root-of b h = go (dec_lt (b % 2147483648) 1) (dec_le b 2139095040) (dec_lt b 2139095040)
   where
     F : ℕ
-    F = rootFields (b / 8388608) (b % 8388608)
+    F = root_fields (b / 8388608) (b % 8388608)
 
-    go : Dec (b % 2147483648 < 1) → Dec (b ≤ 2139095040) → Dec (b < 2139095040) → Sqrt b (rootOf b)
+    go : Dec (b % 2147483648 < 1) → Dec (b ≤ 2139095040) → Dec (b < 2139095040) → Sqrt b (root_of b)
     go (yes z) _ _ = rw (eq-eqb (b % 2147483648) 0 (omega arith)) (is_zero b h (omega arith))
     go (no z) (yes l) (yes m) =
         rw (ne_eqb (b % 2147483648) 0 (λ e. omega arith), ne_eqb b 2139095040 (λ e. omega arith), lt-ltb b 2139095040 m) (fields-root b (b / 8388608) (b % 8388608) refl refl (omega arith) m)
@@ -100,19 +100,19 @@ root-of b h = go (dec_lt (b % 2147483648) 1) (dec_le b 2139095040) (dec_lt b 213
     go (no z) (no l) _ =
         rw (ne_eqb (b % 2147483648) 0 (λ e. omega arith), ne_eqb b 2139095040 (λ e. omega arith), le-ltb b 2139095040 (omega arith)) (is-invalid b (omega arith) (λ e. omega arith) h)
 
--- so what `Sqrt` says is `rootOf`
-pub sqrt-is : (b q : ℕ) → b < 4294967296 → Sqrt b q → q ≡ rootOf b
-sqrt-is b q h s = sqrt-unique b q (rootOf b) h s (root-of b h)
+-- so what `Sqrt` says is `root_of`
+pub sqrt-is : (b q : ℕ) → b < 4294967296 → Sqrt b q → q ≡ root_of b
+sqrt-is b q h s = sqrt-unique b q (root_of b) h s (root-of b h)
 
 -- ---- what a reader wants of it: a positive finite pattern has a finite root, and no other finite pattern is nearer
 
-pub root-finite : (b : ℕ) → 0 < b → b < 2139095040 → rootOf b < 2139095040
+pub root-finite : (b : ℕ) → 0 < b → b < 2139095040 → root_of b < 2139095040
 root-finite b p h = ((root-of b (omega arith)).root p h).0
 
 -- a pattern p below the root: √(mag b * 2 ^ 149) is on the root's side of the midpoint
-pub root-above : (b p : ℕ) → 0 < b → b < 2139095040 → p < rootOf b → (mag p + mag (rootOf b)) * (mag p + mag (rootOf b)) < 4 * (mag b * 2 ^ 149)
-root-above b p h k l = nearer-above (mag b * 2 ^ 149) (rootOf b) p ((root-of b (omega arith)).root h k).1 l
+pub root-above : (b p : ℕ) → 0 < b → b < 2139095040 → p < root_of b → (mag p + mag (root_of b)) * (mag p + mag (root_of b)) < 4 * (mag b * 2 ^ 149)
+root-above b p h k l = nearer-above (mag b * 2 ^ 149) (root_of b) p ((root-of b (omega arith)).root h k).1 l
 
 -- and one above it
-pub root_below : (b p : ℕ) → 0 < b → b < 2139095040 → rootOf b < p → 4 * (mag b * 2 ^ 149) < (mag (rootOf b) + mag p) * (mag (rootOf b) + mag p)
-root_below b p h k l = nearer-below (mag b * 2 ^ 149) (rootOf b) p ((root-of b (omega arith)).root h k).1 l
+pub root_below : (b p : ℕ) → 0 < b → b < 2139095040 → root_of b < p → 4 * (mag b * 2 ^ 149) < (mag (root_of b) + mag p) * (mag (root_of b) + mag p)
+root_below b p h k l = nearer-below (mag b * 2 ^ 149) (root_of b) p ((root-of b (omega arith)).root h k).1 l

@@ -14,7 +14,7 @@ use lib.Ieee.Order.{transfer}
 use lib.Ieee.Positive.{through}
 use borrow.Author.Tests.{ltb-true, lt-ltb}
 use Rattle.sqrt.specs.Root.{mag, Near, Sqrt}
-use Rattle.sqrt.specs.RootOf.{rootOf}
+use Rattle.sqrt.specs.RootOf.{root_of}
 use Rattle.sqrt.proofs.Near.{mag-mono, nearer-above, nearer-below}
 use Rattle.sqrt.proofs.Function.{root-of}
 use Rattle.sqrt.proofs.Values.{value}
@@ -32,27 +32,27 @@ near-mono n m p q h a b = go (dec_le p q)
         let v = nearer-below m q p b (omega arith) in
         absurd (omega (arith, u, v))
 
-pub root-mono : (b c : ℕ) → b ≤ c → c ≤ 2139095040 → rootOf b ≤ rootOf c
+pub root-mono : (b c : ℕ) → b ≤ c → c ≤ 2139095040 → root_of b ≤ root_of c
 root-mono b c h l = go (dec_lt 0 b) (dec_lt c 2139095040)
   where
-    s : Sqrt b (rootOf b)
+    s : Sqrt b (root_of b)
     s = root-of b (omega arith)
 
-    t : Sqrt c (rootOf c)
+    t : Sqrt c (root_of c)
     t = root-of c (omega arith)
 
-    go : Dec (0 < b) → Dec (c < 2139095040) → rootOf b ≤ rootOf c
-    go (no z) _ = let e : rootOf b ≡ b = s.zeros (omega arith) in omega arith
+    go : Dec (0 < b) → Dec (c < 2139095040) → root_of b ≤ root_of c
+    go (no z) _ = let e : root_of b ≡ b = s.zeros (omega arith) in omega arith
     go (yes z) (yes k) =
-        near-mono (mag b * 2 ^ 149) (mag c * 2 ^ 149) (rootOf b) (rootOf c) (mul-le-mul_right (2 ^ 149) (mag-mono b c h)) (s.root z (omega arith)).1 (t.root (omega arith) k).1
+        near-mono (mag b * 2 ^ 149) (mag c * 2 ^ 149) (root_of b) (root_of c) (mul-le-mul_right (2 ^ 149) (mag-mono b c h)) (s.root z (omega arith)).1 (t.root (omega arith) k).1
     go (yes z) (no k) = top (dec_lt b 2139095040)
       where
-        e : rootOf c ≡ c
+        e : root_of c ≡ c
         e = t.infinity (omega arith)
 
-        top : Dec (b < 2139095040) → rootOf b ≤ rootOf c
-        top (yes f) = let g : rootOf b < 2139095040 = (s.root z f).0 in omega (arith, e)
-        top (no f) = let g : rootOf b ≡ b = s.infinity (omega arith) in omega (arith, e)
+        top : Dec (b < 2139095040) → root_of b ≤ root_of c
+        top (yes f) = let g : root_of b < 2139095040 = (s.root z f).0 in omega (arith, e)
+        top (no f) = let g : root_of b ≡ b = s.infinity (omega arith) in omega (arith, e)
 
 -- ---- floats
 
@@ -100,24 +100,24 @@ unfolding lt
 nan_last z h = not_so h
 
 -- where z is above the root of b, it is above the root of every pattern below b, its sign aside
-pub below_root : (b : ℕ) (z : Float) → b < 4294967296 → lt (of_bits binary32 (rootOf b)) z ≡ true → (p : ℕ) → p < b % 2147483648 → lt (of_bits binary32 (rootOf p)) z ≡ true
-below_root b z f h p l = go (dec_le b 2139095040)
+pub below-root : (b : ℕ) (z : Float) → b < 4294967296 → lt (of_bits binary32 (root_of b)) z ≡ true → (p : ℕ) → p < b % 2147483648 → lt (of_bits binary32 (root_of p)) z ≡ true
+below-root b z f h p l = go (dec_le b 2139095040)
   where
-    s : Sqrt b (rootOf b)
+    s : Sqrt b (root_of b)
     s = root-of b f
 
-    bad : rootOf b ≡ 2143289344 → ⊥
+    bad : root_of b ≡ 2143289344 → ⊥
     bad e = nan_last z (subst (λ (x : Float). lt x z ≡ true) (ap (of_bits binary32) e ∙ reads-nan 2143289344 (omega arith)) h)
 
-    large : 2139095040 < b → Dec (b < 2147483648) → lt (of_bits binary32 (rootOf p)) z ≡ true
+    large : 2139095040 < b → Dec (b < 2147483648) → lt (of_bits binary32 (root_of p)) z ≡ true
     large a (yes k) = absurd (bad (s.nans a k))
     large a (no k) = absurd (bad (s.negatives (omega arith)))
 
-    go : Dec (b ≤ 2139095040) → lt (of_bits binary32 (rootOf p)) z ≡ true
-    go (yes k) = bits-lower (rootOf p) (rootOf b) z (root-mono p b (omega arith) k) (finite (dec_lt 0 b) (dec_lt b 2139095040)) h
+    go : Dec (b ≤ 2139095040) → lt (of_bits binary32 (root_of p)) z ≡ true
+    go (yes k) = bits-lower (root_of p) (root_of b) z (root-mono p b (omega arith) k) (finite (dec_lt 0 b) (dec_lt b 2139095040)) h
       where
-        finite : Dec (0 < b) → Dec (b < 2139095040) → rootOf b ≤ 2139095040
-        finite (no o) _ = let e : rootOf b ≡ b = s.zeros (omega arith) in omega arith
-        finite (yes o) (yes u) = let e : rootOf b < 2139095040 = (s.root o u).0 in omega arith
-        finite (yes o) (no u) = let e : rootOf b ≡ b = s.infinity (omega arith) in omega arith
+        finite : Dec (0 < b) → Dec (b < 2139095040) → root_of b ≤ 2139095040
+        finite (no o) _ = let e : root_of b ≡ b = s.zeros (omega arith) in omega arith
+        finite (yes o) (yes u) = let e : root_of b < 2139095040 = (s.root o u).0 in omega arith
+        finite (yes o) (no u) = let e : root_of b ≡ b = s.infinity (omega arith) in omega arith
     go (no k) = large (omega arith) (dec_lt b 2147483648)

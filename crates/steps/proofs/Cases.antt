@@ -11,9 +11,9 @@ use lib.Ieee.{Float}
 use borrow.Author.Tests.{eq-eqb, ne_eqb, leb-true}
 use Rattle.paper.specs.Choice.{pick}
 use Rattle.paper.proofs.Choice.{and_l, and_r}
-use Rattle.paper.specs.Geometry.{Geo, setWords, basesLen, faceWords, vectorBytes}
-use Rattle.records.specs.Requests.{Limits, requestOf}
-use Rattle.records.specs.Fields.{floatsAt}
+use Rattle.paper.specs.Geometry.{Geo, set_words, bases_len, face_words, vector_bytes}
+use Rattle.records.specs.Requests.{Limits, request_of}
+use Rattle.records.specs.Fields.{floats_at}
 use Rattle.records.specs.declared.Session.{Session}
 use Rattle.records.specs.declared.Request.{Request}
 use Rattle.records.specs.declared.Request.TheVariants as Asks
@@ -21,85 +21,85 @@ use Rattle.records.proofs.Floats.{floats-length}
 use Rattle.lines.specs.Lines.{Put, told, listing}
 use Rattle.lines.specs.declared.Told.TheVariants as Says
 use Rattle.lines.proofs.Texts.{told-short, listing-length}
-use Rattle.index_memory.specs.Memory.{Ix, ixOf}
-use Rattle.adding.specs.Adding.{added, addOf}
-use Rattle.vector_store.specs.Search.{Work, works, Searched, searched, searchOf}
+use Rattle.index_memory.specs.Memory.{Ix, ix_of}
+use Rattle.adding.specs.Adding.{added, add_of}
+use Rattle.vector_store.specs.Search.{Work, works, Searched, searched, search_of}
 use Rattle.vector_store.specs.declared.Nearest.{Nearest}
 use Rattle.vector_store.proofs.Answers.{search-sound}
-use Rattle.result.specs.Sets.{wellFormed}
+use Rattle.result.specs.Sets.{well_formed}
 use Rattle.result.specs.declared.ResultSet.{ResultSet}
 use Rattle.result.proofs.Keeps.{Sound}
-use Rattle.steps.specs.Memory.{Mem, memoryOf, geoOf, zeroF, addedBy, addedOf, foundBy, foundOf}
-use Rattle.steps.specs.Steps.{State, state_of, foundText, closed, perform, step_of, Stepped}
+use Rattle.steps.specs.Memory.{Mem, memory_of, geo_of, zero_f, added_by, added_of, found_by, found_of}
+use Rattle.steps.specs.Steps.{State, state_of, found_text, closed, perform, step_of, Stepped}
 use Rattle.steps.proofs.Room.{taken, front_same, part-set, few_words, few-layers}
 
 -- ---- a search lists at most 256
 
 sound-few : (s : ResultSet) → Sound s → s.len ≤ 256
-unfolding wellFormed
+unfolding well_formed
 sound-few s h =
     let e = h.formed in
     let k : s.k ≤ 256 = leb-true s.k 256 (and_l (leb s.k 256) _ e) in
     let l : s.len ≤ s.k = leb-true s.len s.k (and_l (leb s.len s.k) _ (and_r (leb s.k 256) _ e)) in
     omega arith
 
-listed-few : (g : Geo) (bs : List Float) (ix : Ix) (t : List Float) (k wanted spill : ℕ) (m : Work) → (searchOf g bs ix t k wanted spill m).answer.set.len ≤ 256
+listed-few : (g : Geo) (bs : List Float) (ix : Ix) (t : List Float) (k wanted spill : ℕ) (m : Work) → (search_of g bs ix t k wanted spill m).answer.set.len ≤ 256
 listed-few g bs ix t k wanted spill m = sound-few _ (search-sound g bs ix t k wanted spill m)
 
 -- ---- an addition and a search on the front of the memory
 
-module _ (g : Session) (m : Mem) (nb nf nm nv : ℕ) (eb : nb ≡ basesLen g.d g.n) (ef : nf ≡ faceWords g.d g.n g.cap)
-    (em : nm ≡ setWords g.cap) (ev : nv ≡ vectorBytes g.d g.cap g.mode) where
+module _ (g : Session) (m : Mem) (nb nf nm nv : ℕ) (eb : nb ≡ bases_len g.d g.n) (ef : nf ≡ face_words g.d g.n g.cap)
+    (em : nm ≡ set_words g.cap) (ev : nv ≡ vector_bytes g.d g.cap g.mode) where
   pub add_is : (v work : List Float) (id r : ℕ) (f' m' v' : List ℕ) (w' : List Float)
-      → added r (ixOf f' m' v') w' ≡ addOf (geoOf g) (take nb m.bases) id v (ixOf (take nf m.ix.faces) (take nm m.ix.marks) (take nv m.ix.vecs)) work
-      → addedBy v work g id m ≡ (r, memoryOf m.bases (f' ++ drop nf m.ix.faces) (m' ++ drop nm m.ix.marks) (v' ++ drop nv m.ix.vecs))
-  unfolding addedBy
+      → added r (ix_of f' m' v') w' ≡ add_of (geo_of g) (take nb m.bases) id v (ix_of (take nf m.ix.faces) (take nm m.ix.marks) (take nv m.ix.vecs)) work
+      → added_by v work g id m ≡ (r, memory_of m.bases (f' ++ drop nf m.ix.faces) (m' ++ drop nm m.ix.marks) (v' ++ drop nv m.ix.vecs))
+  unfolding added_by
   add_is v work id r f' m' v' w' e = rw (← eb, ← ef, ← em, ← ev, ← e) refl
 
   pub find-is : (v work : List Float) (layers set : List ℕ) (k wanted spill : ℕ) (f : Nearest) (after : Work)
-      → searched f after ≡ searchOf (geoOf g) (take nb m.bases) (ixOf (take nf m.ix.faces) (take nm m.ix.marks) (take nv m.ix.vecs)) v k wanted spill (works work layers set)
-      → (f ≡ foundBy v work layers set g k wanted spill m) × (f.set.len ≤ 256)
-  unfolding foundBy
+      → searched f after ≡ search_of (geo_of g) (take nb m.bases) (ix_of (take nf m.ix.faces) (take nm m.ix.marks) (take nv m.ix.vecs)) v k wanted spill (works work layers set)
+      → (f ≡ found_by v work layers set g k wanted spill m) × (f.set.len ≤ 256)
+  unfolding found_by
   find-is v work layers set k wanted spill f after e = (
     ap (λ (x : Searched). x.answer) e ∙ rw (eb, ef, em, ev) refl,
     subst (λ (x : Searched). x.answer.set.len ≤ 256) (sym e)
-        (listed-few (geoOf g) (take nb m.bases) (ixOf (take nf m.ix.faces) (take nm m.ix.marks) (take nv m.ix.vecs)) v k wanted spill (works work layers set)),
+        (listed-few (geo_of g) (take nb m.bases) (ix_of (take nf m.ix.faces) (take nm m.ix.marks) (take nv m.ix.vecs)) v k wanted spill (works work layers set)),
   )
 
 -- a search over memory of its own that is all zeros
-pub found_as : (s : List ℕ) (g : Session) (k wanted spill : ℕ) (m : Mem) (v : List Float) (f : Nearest) → Limits g → take g.d v ≡ floatsAt g.d s 10
-    → f ≡ foundBy (take g.d v) (take g.d (replicate 8 zeroF)) (take (g.n * setWords g.cap) (replicate 16 0)) (take (setWords g.cap) (replicate 4 0)) g k wanted spill m
-    → f ≡ foundOf s g k wanted spill m
-unfolding foundOf
+pub found_as : (s : List ℕ) (g : Session) (k wanted spill : ℕ) (m : Mem) (v : List Float) (f : Nearest) → Limits g → take g.d v ≡ floats_at g.d s 10
+    → f ≡ found_by (take g.d v) (take g.d (replicate 8 zero_f)) (take (g.n * set_words g.cap) (replicate 16 0)) (take (set_words g.cap) (replicate 4 0)) g k wanted spill m
+    → f ≡ found_of s g k wanted spill m
+unfolding found_of
 found_as s g k wanted spill m v f l e q =
-    q ∙ rw (e, front_same g.d 8 zeroF l.d, front_same {A = ℕ} (g.n * setWords g.cap) 16 0 (few-layers g.n g.cap l.n l.cap), front_same {A = ℕ} (setWords g.cap) 4 0 (few_words g.cap l.cap)) refl
+    q ∙ rw (e, front_same g.d 8 zero_f l.d, front_same {A = ℕ} (g.n * set_words g.cap) 16 0 (few-layers g.n g.cap l.n l.cap), front_same {A = ℕ} (set_words g.cap) 4 0 (few_words g.cap l.cap)) refl
 
 -- ---- how long an answer is
 
-pub found-short : (f : Nearest) → f.set.len ≤ 256 → length (foundText f) ≤ 5184
-unfolding foundText
+pub found-short : (f : Nearest) → f.set.len ≤ 256 → length (found_text f) ≤ 5184
+unfolding found_text
 found-short f h = go (eqb f.refusal 0)
   where
     go : (b : Bool) → length (pick b (told (Says.Found f.set.len f.set.checked) ++ listing f.set.len f.set.ids f.set.sims) (told (Says.Refused f.refusal))) ≤ 5184
     go true = simp length-append (omega (arith, told-short (Says.Found f.set.len f.set.checked), listing-length f.set.len f.set.ids f.set.sims))
     go false = omega (arith, told-short (Says.Refused f.refusal))
 
-pub text-found : (f : Nearest) → f.refusal ≡ 0 → told (Says.Found f.set.len f.set.checked) ++ listing f.set.len f.set.ids f.set.sims ≡ foundText f
-unfolding foundText
+pub text-found : (f : Nearest) → f.refusal ≡ 0 → told (Says.Found f.set.len f.set.checked) ++ listing f.set.len f.set.ids f.set.sims ≡ found_text f
+unfolding found_text
 text-found f e = rw (eq-eqb f.refusal 0 e) refl
 
-pub text-refused : (f : Nearest) → (f.refusal ≡ 0 → ⊥) → told (Says.Refused f.refusal) ≡ foundText f
-unfolding foundText
+pub text-refused : (f : Nearest) → (f.refusal ≡ 0 → ⊥) → told (Says.Refused f.refusal) ≡ found_text f
+unfolding found_text
 text-refused f e = rw (ne_eqb f.refusal 0 e) refl
 
-found-few : (s : List ℕ) (g : Session) (k wanted spill : ℕ) (m : Mem) → length (foundText (foundOf s g k wanted spill m)) ≤ 5184
-unfolding foundOf foundBy
+found-few : (s : List ℕ) (g : Session) (k wanted spill : ℕ) (m : Mem) → length (found_text (found_of s g k wanted spill m)) ≤ 5184
+unfolding found_of found_by
 found-few s g k wanted spill m = found-short _ (listed-few _ _ _ _ k wanted spill _)
 
 -- ---- a record
 
 module _ (s : List ℕ) (st : State) (old new : List ℕ) (at r : ℕ) where
-  pub stepped : (st' : State) (text : List ℕ) (q : Request) → q ≡ requestOf s st.session → perform q s st ≡ (text, st') → Put old new at r text
+  pub stepped : (st' : State) (text : List ℕ) (q : Request) → q ≡ request_of s st.session → perform q s st ≡ (text, st') → Put old new at r text
       → Stepped s st st' old new at r
   unfolding step_of
   stepped st' text q e p u =
@@ -114,7 +114,7 @@ perform-short : (q : Request) (s : List ℕ) (st : State) → length (perform q 
 perform-short (Asks.Refuse num) s st = omega (arith, told-short (Says.Refused num))
 perform-short (Asks.Geometry d n cap mode) s st = omega (arith, told-short (Says.Geometry d n cap mode))
 perform-short (Asks.Basis b) s st = omega (arith, told-short (Says.Basis b))
-perform-short (Asks.Add id) s st = go (addedOf s st.session id st.memory) (eqb (addedOf s st.session id st.memory).0 0)
+perform-short (Asks.Add id) s st = go (added_of s st.session id st.memory) (eqb (added_of s st.session id st.memory).0 0)
   where
     go : (a : ℕ × Mem) (b : Bool) → length (pick {A = List ℕ × State} b (told (Says.Added id), state_of (closed st.session) a.1) (told (Says.Refused a.0), state_of st.session a.1)).0 ≤ 5184
     go a true = omega (arith, told-short (Says.Added id))
@@ -123,18 +123,18 @@ perform-short (Asks.Search k wanted spill) s st = found-few s st.session k wante
 
 pub step-short : (s : List ℕ) (st : State) → length (step_of s st).0 ≤ 5184
 unfolding step_of
-step-short s st = perform-short (requestOf s st.session) s st
+step-short s st = perform-short (request_of s st.session) s st
 
-pub added_is : (s : List ℕ) (g : Session) (id r : ℕ) (m m' : Mem) → addedOf s g id m ≡ (r, m') → r ≡ 0
+pub added_is : (s : List ℕ) (g : Session) (id r : ℕ) (m m' : Mem) → added_of s g id m ≡ (r, m') → r ≡ 0
     → perform (Asks.Add id) s (state_of g m) ≡ (told (Says.Added id), state_of (closed g) m')
 added_is s g id r m m' e z = rw (e, z) refl
 
-pub added-not : (s : List ℕ) (g : Session) (id r : ℕ) (m m' : Mem) → addedOf s g id m ≡ (r, m') → (r ≡ 0 → ⊥)
+pub added-not : (s : List ℕ) (g : Session) (id r : ℕ) (m m' : Mem) → added_of s g id m ≡ (r, m') → (r ≡ 0 → ⊥)
     → perform (Asks.Add id) s (state_of g m) ≡ (told (Says.Refused r), state_of g m')
 added-not s g id r m m' e z = rw (e, ne_eqb r 0 z) refl
 
-pub based-is : (s : List ℕ) (g : Session) (b : ℕ) (m : Mem) (bs : List Float) → bs ≡ sets m.bases (b * (g.d * g.d)) (floatsAt (g.d * g.d) s 4)
-    → perform (Asks.Basis b) s (state_of g m) ≡ (told (Says.Basis b), state_of g (memoryOf bs m.ix.faces m.ix.marks m.ix.vecs))
+pub based-is : (s : List ℕ) (g : Session) (b : ℕ) (m : Mem) (bs : List Float) → bs ≡ sets m.bases (b * (g.d * g.d)) (floats_at (g.d * g.d) s 4)
+    → perform (Asks.Basis b) s (state_of g m) ≡ (told (Says.Basis b), state_of g (memory_of bs m.ix.faces m.ix.marks m.ix.vecs))
 based-is s g b m bs e = rw (← e) refl
 
 -- ---- the places of a record's floats
@@ -142,20 +142,20 @@ based-is s g b m bs e = rw (← e) refl
 pub basis-part : (xs : List Float) (a dd : ℕ) → a + dd ≤ length xs → length (take (a + dd - a) (drop a xs)) ≡ dd
 basis-part xs a dd h = simp (length-take, length-drop) (omega arith)
 
-pub basis-is : (xs : List Float) (a dd : ℕ) (s : List ℕ) (ys : List Float) → a + dd ≤ length xs → ys ≡ floatsAt (length (take (a + dd - a) (drop a xs))) s 4
-    → take a xs ++ (ys ++ drop (a + dd - a) (drop a xs)) ≡ sets xs a (floatsAt dd s 4)
+pub basis-is : (xs : List Float) (a dd : ℕ) (s : List ℕ) (ys : List Float) → a + dd ≤ length xs → ys ≡ floats_at (length (take (a + dd - a) (drop a xs))) s 4
+    → take a xs ++ (ys ++ drop (a + dd - a) (drop a xs)) ≡ sets xs a (floats_at dd s 4)
 basis-is xs a dd s ys h e =
-    let q : ys ≡ floatsAt dd s 4 = e ∙ ap (λ (k : ℕ). floatsAt k s 4) (basis-part xs a dd h) in
-    let l : length (floatsAt dd s 4) ≡ a + dd - a = floats-length dd s 4 ∙ gap in
-    rw q (part-set xs a (a + dd) (floatsAt dd s 4) (omega arith) h l)
+    let q : ys ≡ floats_at dd s 4 = e ∙ ap (λ (k : ℕ). floats_at k s 4) (basis-part xs a dd h) in
+    let l : length (floats_at dd s 4) ≡ a + dd - a = floats-length dd s 4 ∙ gap in
+    rw q (part-set xs a (a + dd) (floats_at dd s 4) (omega arith) h l)
   where
     gap : dd ≡ a + dd - a
     gap = omega arith
 
-pub vector-is : (d from : ℕ) (s : List ℕ) (ys : List Float) → d ≤ 8 → ys ≡ floatsAt (length (take d (replicate 8 zeroF))) s from
-    → (8 ≡ length (ys ++ drop d (replicate 8 zeroF))) × (take d (ys ++ drop d (replicate 8 zeroF)) ≡ floatsAt d s from)
+pub vector-is : (d from : ℕ) (s : List ℕ) (ys : List Float) → d ≤ 8 → ys ≡ floats_at (length (take d (replicate 8 zero_f))) s from
+    → (8 ≡ length (ys ++ drop d (replicate 8 zero_f))) × (take d (ys ++ drop d (replicate 8 zero_f)) ≡ floats_at d s from)
 vector-is d from s ys h e =
-    let q : ys ≡ floatsAt d s from = e ∙ ap (λ (k : ℕ). floatsAt k s from) (sym (taken d 8 zeroF h)) in
-    let l : length (floatsAt d s from) ≡ d = floats-length d s from in
-    let n : length (drop d (replicate 8 zeroF)) ≡ 8 - d = length-drop d (replicate 8 zeroF) in
-    (rw q (omega (arith, length-append (floatsAt d s from) (drop d (replicate 8 zeroF)))), rw q (take_at (floatsAt d s from) (drop d (replicate 8 zeroF)) d l))
+    let q : ys ≡ floats_at d s from = e ∙ ap (λ (k : ℕ). floats_at k s from) (sym (taken d 8 zero_f h)) in
+    let l : length (floats_at d s from) ≡ d = floats-length d s from in
+    let n : length (drop d (replicate 8 zero_f)) ≡ 8 - d = length-drop d (replicate 8 zero_f) in
+    (rw q (omega (arith, length-append (floats_at d s from) (drop d (replicate 8 zero_f)))), rw q (take_at (floats_at d s from) (drop d (replicate 8 zero_f)) d l))

@@ -5,45 +5,45 @@ use Prim.Native.Nat.{ℕ}
 use lib.Ieee.{Float}
 use lib.ListN.{take-append-drop}
 use borrow.Author.Tests.{ne_eqb}
-use Rattle.paper.specs.Geometry.{Geo, setWords, faceWords, vectorBytes}
+use Rattle.paper.specs.Geometry.{Geo, set_words, face_words, vector_bytes}
 use Rattle.index_memory.specs.Memory.{Ix}
-use Rattle.adding.specs.Adding.{addRefusal, addOf}
-use Rattle.records.specs.Requests.{requestOf}
+use Rattle.adding.specs.Adding.{add_refusal, add_of}
+use Rattle.records.specs.Requests.{request_of}
 use Rattle.records.specs.declared.Session.{Session}
 use Rattle.records.specs.declared.Request.{Request}
 use Rattle.records.specs.declared.Request.TheVariants.{Refuse, Geometry, Basis, Add, Search}
 use Rattle.lines.specs.Lines.{told}
 use Rattle.lines.specs.declared.Told.TheVariants as Says
-use Rattle.steps.specs.Memory.{Mem, front, withFront, addedBy, addedOf, foundOf}
-use Rattle.steps.specs.Steps.{State, state_of, perform, step_of, refusedBy, refusalOf}
+use Rattle.steps.specs.Memory.{Mem, front, with_front, added_by, added_of, found_of}
+use Rattle.steps.specs.Steps.{State, state_of, perform, step_of, refused_by, refusal_of}
 use Rattle.steps.proofs.Cases.{added-not, text-refused}
 
 -- no refusal of an addition changes the index
-add-refused : (g : Geo) (bs : List Float) (id : ℕ) (v : List Float) (ix : Ix) (work : List Float) → ((addOf g bs id v ix work).answer ≡ 0 → ⊥)
-    → (addOf g bs id v ix work).ix ≡ ix
-unfolding addOf
-add-refused g bs id v ix work h = rw (ne_eqb (addRefusal g bs id v ix work) 0 h) refl
+add-refused : (g : Geo) (bs : List Float) (id : ℕ) (v : List Float) (ix : Ix) (work : List Float) → ((add_of g bs id v ix work).answer ≡ 0 → ⊥)
+    → (add_of g bs id v ix work).ix ≡ ix
+unfolding add_of
+add-refused g bs id v ix work h = rw (ne_eqb (add_refusal g bs id v ix work) 0 h) refl
 
 -- the front laid over itself
-front-back : (g : Session) (m : Mem) → withFront g m (front g m) ≡ m
+front-back : (g : Session) (m : Mem) → with_front g m (front g m) ≡ m
 front-back g m =
-    rw (take-append-drop (faceWords g.d g.n g.cap) m.ix.faces, take-append-drop (setWords g.cap) m.ix.marks, take-append-drop (vectorBytes g.d g.cap g.mode) m.ix.vecs) refl
+    rw (take-append-drop (face_words g.d g.n g.cap) m.ix.faces, take-append-drop (set_words g.cap) m.ix.marks, take-append-drop (vector_bytes g.d g.cap g.mode) m.ix.vecs) refl
 
-memory-stays : (s : List ℕ) (g : Session) (id : ℕ) (m : Mem) → ((addedOf s g id m).0 ≡ 0 → ⊥) → (addedOf s g id m).1 ≡ m
-unfolding addedOf addedBy
-memory-stays s g id m h = ap (withFront g m) (add-refused _ _ id _ (front g m) _ h) ∙ front-back g m
+memory-stays : (s : List ℕ) (g : Session) (id : ℕ) (m : Mem) → ((added_of s g id m).0 ≡ 0 → ⊥) → (added_of s g id m).1 ≡ m
+unfolding added_of added_by
+memory-stays s g id m h = ap (with_front g m) (add-refused _ _ id _ (front g m) _ h) ∙ front-back g m
 
-performed : (q : Request) (s : List ℕ) (st : State) → (refusedBy q s st ≡ 0 → ⊥) → perform q s st ≡ (told (Says.Refused (refusedBy q s st)), st)
+performed : (q : Request) (s : List ℕ) (st : State) → (refused_by q s st ≡ 0 → ⊥) → perform q s st ≡ (told (Says.Refused (refused_by q s st)), st)
 performed (Refuse num) s st h = refl
 performed (Geometry d n cap mode) s st h = absurd (h refl)
 performed (Basis b) s st h = absurd (h refl)
 performed (Add id) s st h =
-    let a = addedOf s st.session id st.memory in
+    let a = added_of s st.session id st.memory in
     added-not s st.session id a.0 st.memory a.1 refl h
     ∙ ap (λ (m : Mem). (told (Says.Refused a.0), state_of st.session m)) (memory-stays s st.session id st.memory h)
 performed (Search k wanted spill) s st h =
-    ap (λ (t : List ℕ). (t, st)) (sym (text-refused (foundOf s st.session k wanted spill st.memory) h))
+    ap (λ (t : List ℕ). (t, st)) (sym (text-refused (found_of s st.session k wanted spill st.memory) h))
 
-pub refused-step : (s : List ℕ) (st : State) → (refusalOf s st ≡ 0 → ⊥) → step_of s st ≡ (told (Says.Refused (refusalOf s st)), st)
-unfolding step_of refusalOf
-refused-step s st h = performed (requestOf s st.session) s st h
+pub refused-step : (s : List ℕ) (st : State) → (refusal_of s st ≡ 0 → ⊥) → step_of s st ≡ (told (Says.Refused (refusal_of s st)), st)
+unfolding step_of refusal_of
+refused-step s st h = performed (request_of s st.session) s st h

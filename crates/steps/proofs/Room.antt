@@ -6,25 +6,25 @@ use native.Mathlib.Nat.{mul-le-mul}
 use native.Mathlib.Omega.{arith}
 use lib.ListN.{length, take, drop, replicate, length-take, length-replicate}
 use lib.Seq.{sets, sets-eq, drop-drop}
-use Rattle.paper.specs.Geometry.{setWords, basesLen, faceWords, vectorBytes}
+use Rattle.paper.specs.Geometry.{set_words, bases_len, face_words, vector_bytes}
 use Rattle.paper.proofs.Geometry.{comp-le}
 use Rattle.records.proofs.Requests.{square}
 
-pub few-bases : (n d : ℕ) → n ≤ 4 → d ≤ 8 → basesLen d n ≤ 256
+pub few-bases : (n d : ℕ) → n ≤ 4 → d ≤ 8 → bases_len d n ≤ 256
 few-bases n d hn hd = mul-le-mul hn (square d hd)
 
-pub few_words : (c : ℕ) → c ≤ 256 → setWords c ≤ 4
+pub few_words : (c : ℕ) → c ≤ 256 → set_words c ≤ 4
 few_words c h = omega arith
 
-pub few-faces : (n d c : ℕ) → n ≤ 4 → d ≤ 8 → c ≤ 256 → faceWords d n c ≤ 256
+pub few-faces : (n d c : ℕ) → n ≤ 4 → d ≤ 8 → c ≤ 256 → face_words d n c ≤ 256
 few-faces n d c hn hd hc =
     let h : 2 * d ≤ 16 = omega arith in
     mul-le-mul (mul-le-mul hn h) (few_words c hc)
 
-pub few-vectors : (c m d : ℕ) → c ≤ 256 → d ≤ 8 → vectorBytes d c m ≤ 8192
+pub few-vectors : (c m d : ℕ) → c ≤ 256 → d ≤ 8 → vector_bytes d c m ≤ 8192
 few-vectors c m d hc hd = mul-le-mul hc (mul-le-mul (comp-le m) hd)
 
-pub few-layers : (n c : ℕ) → n ≤ 4 → c ≤ 256 → n * setWords c ≤ 16
+pub few-layers : (n c : ℕ) → n ≤ 4 → c ≤ 256 → n * set_words c ≤ 16
 few-layers n c h k = mul-le-mul h (few_words c k)
 
 pub basis-room : (b n d : ℕ) → b < n → n ≤ 4 → d ≤ 8 → b * (d * d) + d * d ≤ 256

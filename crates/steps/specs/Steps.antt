@@ -2,15 +2,15 @@
 use Rattle.std.specs.Prelude.{ℕ, ◌*◌, ◌≡◌, List, ◌++◌, replicate, eqb, Float}
 use Rattle.std.proofs.lemmas.List.Edits.{sets}
 use Rattle.paper.specs.Choice.{pick}
-use Rattle.records.specs.Fields.{floatsAt}
-use Rattle.records.specs.Requests.{requestOf}
+use Rattle.records.specs.Fields.{floats_at}
+use Rattle.records.specs.Requests.{request_of}
 use Rattle.records.specs.declared.Session.{Session}
 use Rattle.records.specs.declared.Request.{Request}
 use Rattle.records.specs.declared.Request.TheVariants.{Refuse, Geometry, Basis, Add, Search}
 use Rattle.lines.specs.Lines.{Put, told, listing}
 use Rattle.lines.specs.declared.Told.TheVariants as Says
 use Rattle.vector_store.specs.declared.Nearest.{Nearest}
-use Rattle.steps.specs.Memory.{Mem, memoryOf, zeroF, addedOf, foundOf}
+use Rattle.steps.specs.Memory.{Mem, memory_of, zero_f, added_of, found_of}
 use Rattle.steps.specs.declared.Store.{Store}
 
 pub record State : Type 0 where
@@ -22,62 +22,62 @@ state_of g m = record { session = g; memory = m }
 
 -- the state that a store holds
 abbrev pub held : Store → State
-held t = state_of t.session (memoryOf t.bases t.faces t.marks t.vectors)
+held t = state_of t.session (memory_of t.bases t.faces t.marks t.vectors)
 
-abbrev pub sessionOf : ℕ → ℕ → ℕ → ℕ → ℕ → Session
-sessionOf stage d n cap mode = record { stage = stage; d = d; n = n; cap = cap; mode = mode }
+abbrev pub session_of : ℕ → ℕ → ℕ → ℕ → ℕ → Session
+session_of stage d n cap mode = record { stage = stage; d = d; n = n; cap = cap; mode = mode }
 
 -- bases, face sets, marks and vectors start as zeros
 unfoldable pub start_of : Store
 start_of = record {
-  session = sessionOf 0 0 0 0 0;
-  bases = replicate 256 zeroF;
+  session = session_of 0 0 0 0 0;
+  bases = replicate 256 zero_f;
   faces = replicate 256 0;
   marks = replicate 4 0;
   vectors = replicate 8192 0;
 }
 
 -- a search's lines: its refusal, or how many are listed and how many were checked, and the list
-unfoldable pub foundText : Nearest → List ℕ
-foundText f =
+unfoldable pub found_text : Nearest → List ℕ
+found_text f =
     pick (eqb f.refusal 0)
     (told (Says.Found f.set.len f.set.checked) ++ listing f.set.len f.set.ids f.set.sims)
     (told (Says.Refused f.refusal))
 
 -- an accepted addition closes the bases; a refused one changes nothing of the session
 abbrev pub closed : Session → Session
-closed g = sessionOf 2 g.d g.n g.cap g.mode
+closed g = session_of 2 g.d g.n g.cap g.mode
 
-abbrev pub addDone : Session → ℕ → ℕ × Mem → List ℕ × State
-addDone g id a = pick (eqb a.0 0) (told (Says.Added id), state_of (closed g) a.1) (told (Says.Refused a.0), state_of g a.1)
+abbrev pub add_done : Session → ℕ → ℕ × Mem → List ℕ × State
+add_done g id a = pick (eqb a.0 0) (told (Says.Added id), state_of (closed g) a.1) (told (Says.Refused a.0), state_of g a.1)
 
-abbrev pub withBases : Mem → List Float → Mem
-withBases m b = record { bases = b; ix = m.ix }
+abbrev pub with_bases : Mem → List Float → Mem
+with_bases m b = record { bases = b; ix = m.ix }
 
 -- what a request prints, and the state behind it; basis b stands at b * d * d
 abbrev pub perform : Request → List ℕ → State → List ℕ × State
 perform (Refuse num) s st = (told (Says.Refused num), st)
-perform (Geometry d n cap mode) s st = (told (Says.Geometry d n cap mode), state_of (sessionOf 1 d n cap mode) st.memory)
+perform (Geometry d n cap mode) s st = (told (Says.Geometry d n cap mode), state_of (session_of 1 d n cap mode) st.memory)
 perform (Basis b) s st =
     let g = st.session in
-    (told (Says.Basis b), state_of g (withBases st.memory (sets st.memory.bases (b * (g.d * g.d)) (floatsAt (g.d * g.d) s 4))))
-perform (Add id) s st = addDone st.session id (addedOf s st.session id st.memory)
-perform (Search k wanted spill) s st = (foundText (foundOf s st.session k wanted spill st.memory), st)
+    (told (Says.Basis b), state_of g (with_bases st.memory (sets st.memory.bases (b * (g.d * g.d)) (floats_at (g.d * g.d) s 4))))
+perform (Add id) s st = add_done st.session id (added_of s st.session id st.memory)
+perform (Search k wanted spill) s st = (found_text (found_of s st.session k wanted spill st.memory), st)
 
 -- one record
 unfoldable pub step_of : List ℕ → State → List ℕ × State
-step_of s st = perform (requestOf s st.session) s st
+step_of s st = perform (request_of s st.session) s st
 
 -- the number that refuses a record, 0 for none: that of its form or its time, or the call's own
-abbrev pub refusedBy : Request → List ℕ → State → ℕ
-refusedBy (Refuse num) s st = num
-refusedBy (Geometry d n cap mode) s st = 0
-refusedBy (Basis b) s st = 0
-refusedBy (Add id) s st = (addedOf s st.session id st.memory).0
-refusedBy (Search k wanted spill) s st = (foundOf s st.session k wanted spill st.memory).refusal
+abbrev pub refused_by : Request → List ℕ → State → ℕ
+refused_by (Refuse num) s st = num
+refused_by (Geometry d n cap mode) s st = 0
+refused_by (Basis b) s st = 0
+refused_by (Add id) s st = (added_of s st.session id st.memory).0
+refused_by (Search k wanted spill) s st = (found_of s st.session k wanted spill st.memory).refusal
 
-unfoldable pub refusalOf : List ℕ → State → ℕ
-refusalOf s st = refusedBy (requestOf s st.session) s st
+unfoldable pub refusal_of : List ℕ → State → ℕ
+refusal_of s st = refused_by (request_of s st.session) s st
 
 -- a record's text stands in out at a place, and the state is the one behind the record
 pub record Stepped (s : List ℕ) (st st' : State) (old new : List ℕ) (at r : ℕ) : Type 0 where

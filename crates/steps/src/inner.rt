@@ -2,10 +2,10 @@
 ghost use Rattle.std.specs.Prelude.{◌≡◌, ◌+◌, ◌*◌, ◌≤◌, ◌<◌, length, take};
 ghost use Rattle.std.proofs.lemmas.List.Edits.{sets};
 ghost use Rattle.lines.specs.Lines.{Put};
-ghost use Rattle.records.specs.Fields.{floatsAt};
+ghost use Rattle.records.specs.Fields.{floats_at};
 ghost use Rattle.records.specs.Requests.{Limits};
-ghost use Rattle.steps.specs.Memory.{Parts, Memory, memoryOf, addedBy, addedOf, foundBy, foundOf};
-ghost use Rattle.steps.specs.Steps.{foundText, state_of, Stepped};
+ghost use Rattle.steps.specs.Memory.{Parts, Memory, memory_of, added_by, added_of, found_by, found_of};
+ghost use Rattle.steps.specs.Steps.{found_text, state_of, Stepped};
 
 use super::After;
 use lines::Told;
@@ -36,7 +36,7 @@ fn parts_of(g: Session) -> Lengths
 // The record's basis goes to its place.
 fn set_basis(s: &[u8], g: Session, b: u32, bases: &mut [f32])
     requires { Limits g × (b < g.n) × (length s.now ≡ 4 + 4 * (g.d * g.d)) × (length bases.old ≡ 256) }
-    ensures { bases.new ≡ sets bases.old (b * (g.d * g.d)) (floatsAt (g.d * g.d) s.now 4) }
+    ensures { bases.new ≡ sets bases.old (b * (g.d * g.d)) (floats_at (g.d * g.d) s.now 4) }
 {
     let d = g.d as usize;
     let a = b as usize * (d * d);
@@ -47,7 +47,7 @@ fn set_basis(s: &[u8], g: Session, b: u32, bases: &mut [f32])
 // The vector of a record.
 fn vector_of(s: &[u8], from: usize, d: usize) -> [f32; 8]
     requires { (d ≤ 8) × (from + 4 * d ≤ length s.now) }
-    ensures { (8 ≡ length result) × (take d result ≡ floatsAt d s.now from) }
+    ensures { (8 ≡ length result) × (take d result ≡ floats_at d s.now from) }
 {
     let mut v = [0.0f32; 8];
     records::inner::floats_at(s, from, &mut v[..d]);
@@ -66,8 +66,8 @@ fn add_front(
     vectors: &mut [u8],
 ) -> u32
     requires { Limits g × Memory (length bases.now) (length faces.old) (length marks.old) (length vectors.old) }
-    ensures { addedBy v.now work.old g id (memoryOf bases.now faces.old marks.old vectors.old)
-        ≡ (result, memoryOf bases.now faces.new marks.new vectors.new) }
+    ensures { added_by v.now work.old g id (memory_of bases.now faces.old marks.old vectors.old)
+        ≡ (result, memory_of bases.now faces.new marks.new vectors.new) }
 {
     let l = parts_of(g);
     let nb = l.bases;
@@ -100,8 +100,8 @@ fn add(
     vectors: &mut [u8],
 ) -> u32
     requires { Limits g × (length s.now ≡ 6 + 4 * g.d) × Memory (length bases.now) (length faces.old) (length marks.old) (length vectors.old) }
-    ensures { addedOf s.now g id (memoryOf bases.now faces.old marks.old vectors.old)
-        ≡ (result, memoryOf bases.now faces.new marks.new vectors.new) }
+    ensures { added_of s.now g id (memory_of bases.now faces.old marks.old vectors.old)
+        ≡ (result, memory_of bases.now faces.new marks.new vectors.new) }
 {
     let d = g.d as usize;
     let v = vector_of(s, 6, d);
@@ -125,7 +125,7 @@ fn find_front(
     vectors: &[u8],
 ) -> Nearest
     requires { Limits g × Memory (length bases.now) (length faces.now) (length marks.now) (length vectors.now) }
-    ensures { (result ≡ foundBy v.now work.old layers.old joined.old g k wanted spill (memoryOf bases.now faces.now marks.now vectors.now))
+    ensures { (result ≡ found_by v.now work.old layers.old joined.old g k wanted spill (memory_of bases.now faces.now marks.now vectors.now))
         × (result.set.len ≤ 256) }
 {
     let l = parts_of(g);
@@ -155,7 +155,7 @@ fn find_front(
 // What a search prints: its refusal, or how many it lists and checked, and the list.
 fn put_found(f: Nearest, out: &mut [u8], at: usize) -> usize
     requires { (at + 5184 ≤ length out.old) × (f.set.len ≤ 256) }
-    ensures { Put out.old out.new at result (foundText f) }
+    ensures { Put out.old out.new at result (found_text f) }
 {
     let num = f.refusal;
     if num != 0 {
@@ -183,7 +183,7 @@ fn query(
 ) -> usize
     requires { Limits g × (length s.now ≡ 10 + 4 * g.d) × Memory (length bases.now) (length faces.now) (length marks.now) (length vectors.now) × (at + 5184 ≤ length out.old) }
     ensures { Put out.old out.new at result
-        (foundText (foundOf s.now g k wanted spill (memoryOf bases.now faces.now marks.now vectors.now))) }
+        (found_text (found_of s.now g k wanted spill (memory_of bases.now faces.now marks.now vectors.now))) }
 {
     let d = g.d as usize;
     let v = vector_of(s, 10, d);
@@ -221,8 +221,8 @@ pub fn step(
     at: usize,
 ) -> After
     requires { Memory (length bases.old) (length faces.old) (length marks.old) (length vectors.old) × (at + 5184 ≤ length out.old) }
-    ensures { Stepped s.now (state_of g (memoryOf bases.old faces.old marks.old vectors.old))
-        (state_of result.session (memoryOf bases.new faces.new marks.new vectors.new)) out.old out.new at result.at }
+    ensures { Stepped s.now (state_of g (memory_of bases.old faces.old marks.old vectors.old))
+        (state_of result.session (memory_of bases.new faces.new marks.new vectors.new)) out.old out.new at result.at }
 {
     match records::asked(s, g) {
         Request::Refuse(num) => After {

@@ -14,17 +14,17 @@ fold2 f acc (x ∷ xs) [] = acc
 fold2 f acc (x ∷ xs) (y ∷ ys) = fold2 f (f acc x y) xs ys
 
 -- acc + x y: the product is rounded, then the sum
-abbrev pub dotStep : Float → Float → Float → Float
-dotStep acc x y = add binary32 acc (mul binary32 x y)
+abbrev pub dot_step : Float → Float → Float → Float
+dot_step acc x y = add binary32 acc (mul binary32 x y)
 
 -- the dot product
-unfoldable pub dotOf : List Float → List Float → Float
-dotOf xs ys = fold2 dotStep zero32 xs ys
+unfoldable pub dot_of : List Float → List Float → Float
+dot_of xs ys = fold2 dot_step zero32 xs ys
 
 -- acc + (x - y)(x - y): the difference is rounded, then its square, then the sum
-abbrev pub distStep : Float → Float → Float → Float
-distStep acc x y = add binary32 acc (mul binary32 (sub binary32 x y) (sub binary32 x y))
+abbrev pub dist_step : Float → Float → Float → Float
+dist_step acc x y = add binary32 acc (mul binary32 (sub binary32 x y) (sub binary32 x y))
 
 -- the sum of the squared differences, whose root is the distance
-unfoldable pub squaresOf : List Float → List Float → Float
-squaresOf xs ys = fold2 distStep zero32 xs ys
+unfoldable pub squares_of : List Float → List Float → Float
+squares_of xs ys = fold2 dist_step zero32 xs ys

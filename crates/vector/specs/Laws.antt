@@ -2,18 +2,18 @@
 use Rattle.std.specs.Prelude.{◌≡◌, true, List, [], ℕ, length, Float}
 use Rattle.sqrt.specs.RootOf.{root}
 use Rattle.vector.specs.declared.Number.{Number}
-use Rattle.vector.specs.Fold.{zero32, dotOf, squaresOf}
-use Rattle.vector.specs.Finite.{allFinite}
-use Rattle.vector.specs.Norm.{normNumber, normalized}
+use Rattle.vector.specs.Fold.{zero32, dot_of, squares_of}
+use Rattle.vector.specs.Finite.{all_finite}
+use Rattle.vector.specs.Norm.{norm_number, normalized}
 use Rattle.vector.specs.Answer.{Answers}
 
 pub record Laws : Type 0 where
   -- two answers to the same call are equal
-  pub one_answer : (r s : Number) (num : ℕ) (x : Float) → Answers r num x → Answers s num x → r ≡ s
+  pub one-answer : (r s : Number) (num : ℕ) (x : Float) → Answers r num x → Answers s num x → r ≡ s
   -- length 0 gives +0.0, the dot product and the distance
-  pub dot-of-none : dotOf [] [] ≡ zero32
-  pub distance-of-none : root (squaresOf [] []) ≡ zero32
+  pub dot-of-none : dot_of [] [] ≡ zero32
+  pub distance-of-none : root (squares_of [] []) ≡ zero32
   -- normalising leaves as many components as there were
   pub length-normalized : (v : List Float) → length (normalized v) ≡ length v
   -- and where it accepts, each of them is finite
-  pub finite-normalized : (v : List Float) → normNumber v ≡ 0 → allFinite (normalized v) ≡ true
+  pub finite-normalized : (v : List Float) → norm_number v ≡ 0 → all_finite (normalized v) ≡ true

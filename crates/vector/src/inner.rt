@@ -1,11 +1,11 @@
 // Sums over two slices of one length, for the crates above.
 ghost use Rattle.std.specs.Prelude.{◌≡◌, length};
-ghost use Rattle.vector.specs.Fold.{dotOf, squaresOf};
+ghost use Rattle.vector.specs.Fold.{dot_of, squares_of};
 
 // The dot product.
 pub fn dot_of(vec: &[f32], other: &[f32]) -> f32
     requires { length vec.now ≡ length other.now }
-    ensures { result ≡ dotOf vec.now other.now }
+    ensures { result ≡ dot_of vec.now other.now }
 {
     let mut sum: f32 = 0.0;
     for i in 0..vec.len() {
@@ -17,7 +17,7 @@ pub fn dot_of(vec: &[f32], other: &[f32]) -> f32
 // The sum of the squared differences.
 pub fn squares_of(vec: &[f32], other: &[f32]) -> f32
     requires { length vec.now ≡ length other.now }
-    ensures { result ≡ squaresOf vec.now other.now }
+    ensures { result ≡ squares_of vec.now other.now }
 {
     let mut sum: f32 = 0.0;
     for i in 0..vec.len() {

@@ -5,9 +5,9 @@
 ghost use Rattle.std.specs.Prelude.{◌≡◌, eqb, length};
 ghost use Rattle.paper.specs.Choice.{refuse};
 ghost use Rattle.sqrt.specs.RootOf.{root};
-ghost use Rattle.vector.specs.Fold.{dotOf, squaresOf};
-ghost use Rattle.vector.specs.Finite.{is_finite, allFinite};
-ghost use Rattle.vector.specs.Norm.{normNumber, normalized, divided_by, allFiniteBy, normal};
+ghost use Rattle.vector.specs.Fold.{dot_of, squares_of};
+ghost use Rattle.vector.specs.Finite.{is_finite, all_finite};
+ghost use Rattle.vector.specs.Norm.{norm_number, normalized, divided_by, all_finite_by, normal};
 ghost use Rattle.vector.specs.Answer.{Answers};
 ghost use Rattle.vector.specs.Laws.{Laws};
 
@@ -22,7 +22,7 @@ pub enum Number {
 
 // The dot product: the products added in index order, from +0.0. Refuses 2 where the lengths differ (the Rust cuts to the shorter).
 pub fn dot_product(vec: &[f32], other: &[f32]) -> Number
-    ensures { Answers result (refuse 2 (eqb (length vec.now) (length other.now)) 0) (dotOf vec.now other.now) }
+    ensures { Answers result (refuse 2 (eqb (length vec.now) (length other.now)) 0) (dot_of vec.now other.now) }
 {
     if vec.len() != other.len() {
         return Number::Refused(paper::WRONG_LENGTH);
@@ -32,7 +32,7 @@ pub fn dot_product(vec: &[f32], other: &[f32]) -> Number
 
 // The distance: the root of the squared differences, added in index order, from +0.0. Refuses 2 where the lengths differ.
 pub fn distance(vec: &[f32], other: &[f32]) -> Number
-    ensures { Answers result (refuse 2 (eqb (length vec.now) (length other.now)) 0) (root (squaresOf vec.now other.now)) }
+    ensures { Answers result (refuse 2 (eqb (length vec.now) (length other.now)) 0) (root (squares_of vec.now other.now)) }
 {
     if vec.len() != other.len() {
         return Number::Refused(paper::WRONG_LENGTH);
@@ -50,7 +50,7 @@ pub fn is_finite(x: f32) -> bool
 
 // Whether each component is finite.
 pub fn all_finite(vec: &[f32]) -> bool
-    ensures { result ≡ allFinite vec.now }
+    ensures { result ≡ all_finite vec.now }
 {
     let mut i = 0;
     while i < vec.len() {
@@ -64,7 +64,7 @@ pub fn all_finite(vec: &[f32]) -> bool
 
 // Whether each component divided by the norm is finite.
 fn quotients_finite(vec: &[f32], norm: f32) -> bool
-    ensures { result ≡ allFiniteBy norm vec.now }
+    ensures { result ≡ all_finite_by norm vec.now }
 {
     let mut i = 0;
     while i < vec.len() {
@@ -90,7 +90,7 @@ fn divide_all(vec: &mut [f32], norm: f32)
 // Divides each component by the norm, the root of the vector's dot product with itself. Refuses 5 for a component that is not finite, then 6 for a norm that is
 // zero or not finite or a quotient that is not finite. A refusal leaves the vector as it was: the quotients are tried before the first is written.
 pub fn normalize(vec: &mut [f32]) -> u32
-    ensures { normal result vec.new ≡ normal (normNumber vec.old) (normalized vec.old) }
+    ensures { normal result vec.new ≡ normal (norm_number vec.old) (normalized vec.old) }
 {
     if !all_finite(vec) {
         return paper::NOT_FINITE;

@@ -8,8 +8,8 @@
 #![tactic(auto)]
 
 ghost use Rattle.std.specs.Prelude.{◌≡◌, ◌≤◌, length, nat_abs};
-ghost use Rattle.vector.specs.Answer.{refusalOf};
-ghost use Rattle.vector_run.specs.Shown.{facesRefusalOf};
+ghost use Rattle.vector.specs.Answer.{refusal_of};
+ghost use Rattle.vector_run.specs.Shown.{faces_refusal_of};
 
 use faces::FaceAnswer;
 use recorded::inner::{decimal, floats, number, show_float, show_floats, text};
@@ -86,7 +86,7 @@ fn put_refusal(num: u32) -> u32
 
 // A number or a refusal. Answers the refusal's number.
 fn put_number(answer: Number) -> u32
-    ensures { result ≡ refusalOf answer }
+    ensures { result ≡ refusal_of answer }
 {
     match answer {
         Number::Value(x) => {
@@ -100,7 +100,7 @@ fn put_number(answer: Number) -> u32
 
 // A face or a refusal. Answers the refusal's number.
 fn put_face_answer(answer: FaceAnswer) -> u32
-    ensures { result ≡ facesRefusalOf answer }
+    ensures { result ≡ faces_refusal_of answer }
 {
     match answer {
         FaceAnswer::Face(f) => {

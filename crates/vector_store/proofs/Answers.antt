@@ -9,7 +9,7 @@ use lib.Ieee.{Float}
 use lib.ListN.{length}
 use borrow.Author.Tests.{eqb-true, eqb-false, leb-true}
 use Rattle.paper.specs.Choice.{pick, refuse}
-use Rattle.paper.specs.Geometry.{Geo, setWords}
+use Rattle.paper.specs.Geometry.{Geo, set_words}
 use Rattle.paper.proofs.Choice.{refuse-ok}
 use Rattle.index_memory.specs.Memory.{Ix}
 use Rattle.bitmaps.specs.Words.{size}
@@ -19,28 +19,28 @@ use Rattle.counting_bitmap.specs.TopLayer.{top_of, Highest}
 use Rattle.counting_bitmap.specs.declared.Top.{Top}
 use Rattle.counting_bitmap.specs.declared.Top.TheVariants.{Layer, Nothing}
 use Rattle.counting_bitmap.proofs.Highest.{top-layer-is}
-use Rattle.result.specs.Ranked.{larger, inOrder}
-use Rattle.result.specs.Sets.{entriesOf, emptySet}
+use Rattle.result.specs.Ranked.{larger, in_order}
+use Rattle.result.specs.Sets.{entries_of, empty_set}
 use Rattle.result.specs.declared.ResultSet.{ResultSet}
 use Rattle.result.specs.declared.Fed.{Fed}
 use Rattle.result.proofs.Keeps.{Sound, sound_empty}
-use Rattle.vector.specs.Finite.{allFinite}
+use Rattle.vector.specs.Finite.{all_finite}
 use Rattle.faces.specs.Slots.{picks_of}
-use Rattle.backend_memory.specs.Ranking.{similarityOf, rank_of}
+use Rattle.backend_memory.specs.Ranking.{similarity_of, rank_of}
 use Rattle.backend_memory.specs.Listed.{Each, TrueEntry}
 use Rattle.backend_memory.proofs.Counts.{rank-checked, rank-order, rank-sound}
 use Rattle.backend_memory.proofs.Listed.{rank-listed}
-use Rattle.candidates.specs.Gathering.{Query, queryOf, targetFinite, layersOf, droppedOf}
+use Rattle.candidates.specs.Gathering.{Query, query_of, target_finite, layers_of, dropped_of}
 use Rattle.candidates.proofs.Unions.{search-drops-none}
 use Rattle.candidates.proofs.Words.{layer-words}
-use Rattle.vector_store.specs.Search.{AcceptedSearch, searchedBy, refused, rankedBy, topRankOf, foundOf, Work, searched, cleared, searchShape, searchRefusal, searchOf}
+use Rattle.vector_store.specs.Search.{AcceptedSearch, searched_by, refused, ranked_by, top_rank_of, found_of, Work, searched, cleared, search_shape, search_refusal, search_of}
 use Rattle.vector_store.specs.declared.Nearest.{Nearest}
 
 -- ---- an accepted search
 
 module _ (n mode k sk : ℕ) (q : Query) (ms vs : List ℕ) where
-  from-rank : targetFinite q n ≡ true → (i : ℕ) → top_of n q.w (layersOf n q) sk ≡ Layer i → (b : Bool) → eqb (rank_of mode k (layer q.w (layersOf n q) i) ms vs q.target).refusal 0 ≡ b
-      → (r : Nearest) → r ≡ pick b (record { refusal = 0; set = (rank_of mode k (layer q.w (layersOf n q) i) ms vs q.target).set; dropped = droppedOf n q }) (refused (rank_of mode k (layer q.w (layersOf n q) i) ms vs q.target).refusal)
+  from-rank : target_finite q n ≡ true → (i : ℕ) → top_of n q.w (layers_of n q) sk ≡ Layer i → (b : Bool) → eqb (rank_of mode k (layer q.w (layers_of n q) i) ms vs q.target).refusal 0 ≡ b
+      → (r : Nearest) → r ≡ pick b (record { refusal = 0; set = (rank_of mode k (layer q.w (layers_of n q) i) ms vs q.target).set; dropped = dropped_of n q }) (refused (rank_of mode k (layer q.w (layers_of n q) i) ms vs q.target).refusal)
       → r.refusal ≡ 0 → AcceptedSearch n mode k sk q ms vs r
   from-rank f i h true t r p e =
       record {
@@ -51,56 +51,56 @@ module _ (n mode k sk : ℕ) (q : Query) (ms vs : List ℕ) where
         ranked = ap (λ (x : Nearest). x.set) p;
         dropped = ap (λ (x : Nearest). x.dropped) p ∙ search-drops-none n q;
       }
-  from-rank f i h false t r p e = absurd (eqb-false (rank_of mode k (layer q.w (layersOf n q) i) ms vs q.target).refusal 0 t (ap (λ (x : Nearest). x.refusal) (sym p) ∙ e))
+  from-rank f i h false t r p e = absurd (eqb-false (rank_of mode k (layer q.w (layers_of n q) i) ms vs q.target).refusal 0 t (ap (λ (x : Nearest). x.refusal) (sym p) ∙ e))
 
-  by_cases : (b : Bool) (tp : Top) → targetFinite q n ≡ b → top_of n q.w (layersOf n q) sk ≡ tp → (r : Nearest)
-      → r ≡ pick b (rankedBy mode k q.w (layersOf n q) ms vs q.target (droppedOf n q) tp) (refused 7) → r.refusal ≡ 0 → AcceptedSearch n mode k sk q ms vs r
-  by_cases true (Layer i) f h r p e = from-rank f i h (eqb (rank_of mode k (layer q.w (layersOf n q) i) ms vs q.target).refusal 0) refl r p e
+  by_cases : (b : Bool) (tp : Top) → target_finite q n ≡ b → top_of n q.w (layers_of n q) sk ≡ tp → (r : Nearest)
+      → r ≡ pick b (ranked_by mode k q.w (layers_of n q) ms vs q.target (dropped_of n q) tp) (refused 7) → r.refusal ≡ 0 → AcceptedSearch n mode k sk q ms vs r
+  by_cases true (Layer i) f h r p e = from-rank f i h (eqb (rank_of mode k (layer q.w (layers_of n q) i) ms vs q.target).refusal 0) refl r p e
   by_cases true Nothing f h r p e = absurd (omega (arith, ap (λ (x : Nearest). x.refusal) p))
   by_cases false tp f h r p e = absurd (omega (arith, ap (λ (x : Nearest). x.refusal) p))
 
-  pub found-accepted : (foundOf n mode k sk q ms vs).refusal ≡ 0 → AcceptedSearch n mode k sk q ms vs (foundOf n mode k sk q ms vs)
-  unfolding foundOf topRankOf
-  found-accepted e = by_cases (targetFinite q n) (top_of n q.w (layersOf n q) sk) refl refl _ refl e
+  pub found-accepted : (found_of n mode k sk q ms vs).refusal ≡ 0 → AcceptedSearch n mode k sk q ms vs (found_of n mode k sk q ms vs)
+  unfolding found_of top_rank_of
+  found-accepted e = by_cases (target_finite q n) (top_of n q.w (layers_of n q) sk) refl refl _ refl e
 
   -- what follows for the answer
   module _ (r : Nearest) (a : AcceptedSearch n mode k sk q ms vs r) where
     -- the chosen layer has at least search_k ids, and none above it has
-    pub chosen-highest : Highest n q.w (layersOf n q) sk a.at
-    chosen-highest = top-layer-is n q.w (layersOf n q) sk a.at a.chosen
+    pub chosen-highest : Highest n q.w (layers_of n q) sk a.at
+    chosen-highest = top-layer-is n q.w (layers_of n q) sk a.at a.chosen
 
     -- checked is the number of ids in the chosen layer (any lent word is below 2^64)
-    pub found-checked : Words q.faces → r.set.checked ≡ size (layer q.w (layersOf n q) a.at)
+    pub found-checked : Words q.faces → r.set.checked ≡ size (layer q.w (layers_of n q) a.at)
     found-checked h =
         ap (λ (s : ResultSet). s.checked) a.ranked
-        ∙ rank-checked mode k (layer q.w (layersOf n q) a.at) ms vs q.target (layer-words n q a.at h) a.good
+        ∙ rank-checked mode k (layer q.w (layers_of n q) a.at) ms vs q.target (layer-words n q a.at h) a.good
 
     -- every listed id is in the chosen layer, has its mark, and stands with the score that its stored vector gives
-    pub found-listed : Each (TrueEntry (layer q.w (layersOf n q) a.at) ms (similarityOf mode vs q.target)) (entriesOf r.set)
+    pub found-listed : Each (TrueEntry (layer q.w (layers_of n q) a.at) ms (similarity_of mode vs q.target)) (entries_of r.set)
     found-listed =
-        subst (λ (s : ResultSet). Each (TrueEntry (layer q.w (layersOf n q) a.at) ms (similarityOf mode vs q.target)) (entriesOf s)) (sym a.ranked)
-        (rank-listed mode k (layer q.w (layersOf n q) a.at) ms vs q.target a.good)
+        subst (λ (s : ResultSet). Each (TrueEntry (layer q.w (layers_of n q) a.at) ms (similarity_of mode vs q.target)) (entries_of s)) (sym a.ranked)
+        (rank-listed mode k (layer q.w (layers_of n q) a.at) ms vs q.target a.good)
 
     -- scores never rise along the list
-    pub found-order : inOrder larger (entriesOf r.set) ≡ true
+    pub found-order : in_order larger (entries_of r.set) ≡ true
     found-order =
-        ap (λ (s : ResultSet). inOrder larger (entriesOf s)) a.ranked
-        ∙ rank-order mode k (layer q.w (layersOf n q) a.at) ms vs q.target a.good
+        ap (λ (s : ResultSet). in_order larger (entries_of s)) a.ranked
+        ∙ rank-order mode k (layer q.w (layers_of n q) a.at) ms vs q.target a.good
 
-pub search-accepted : (g : Geo) (bs : List Float) (ix : Ix) (t : List Float) (k sk spill : ℕ) (m : Work) → (searchOf g bs ix t k sk spill m).answer.refusal ≡ 0
-    → AcceptedSearch g.n g.mode k sk (searchedBy g bs ix t spill) ix.marks ix.vecs (searchOf g bs ix t k sk spill m).answer
-unfolding searchOf
-search-accepted g bs ix t k sk spill m e = by (searchRefusal g bs ix t k m) (eqb (searchRefusal g bs ix t k m) 0) refl e
+pub search-accepted : (g : Geo) (bs : List Float) (ix : Ix) (t : List Float) (k sk spill : ℕ) (m : Work) → (search_of g bs ix t k sk spill m).answer.refusal ≡ 0
+    → AcceptedSearch g.n g.mode k sk (searched_by g bs ix t spill) ix.marks ix.vecs (search_of g bs ix t k sk spill m).answer
+unfolding search_of
+search-accepted g bs ix t k sk spill m e = by (search_refusal g bs ix t k m) (eqb (search_refusal g bs ix t k m) 0) refl e
   where
     by : (num : ℕ) (b : Bool) → eqb num 0 ≡ b
-        → (pick b (searched (foundOf g.n g.mode k sk (searchedBy g bs ix t spill) ix.marks ix.vecs) (cleared m)) (searched (refused num) m)).answer.refusal ≡ 0
-        → AcceptedSearch g.n g.mode k sk (searchedBy g bs ix t spill) ix.marks ix.vecs (pick b (searched (foundOf g.n g.mode k sk (searchedBy g bs ix t spill) ix.marks ix.vecs) (cleared m)) (searched (refused num) m)).answer
-    by num true h e = found-accepted g.n g.mode k sk (searchedBy g bs ix t spill) ix.marks ix.vecs e
+        → (pick b (searched (found_of g.n g.mode k sk (searched_by g bs ix t spill) ix.marks ix.vecs) (cleared m)) (searched (refused num) m)).answer.refusal ≡ 0
+        → AcceptedSearch g.n g.mode k sk (searched_by g bs ix t spill) ix.marks ix.vecs (pick b (searched (found_of g.n g.mode k sk (searched_by g bs ix t spill) ix.marks ix.vecs) (cleared m)) (searched (refused num) m)).answer
+    by num true h e = found-accepted g.n g.mode k sk (searched_by g bs ix t spill) ix.marks ix.vecs e
     by num false h e = absurd (eqb-false num 0 h e)
 
 -- ---- whatever a search answers, its set is well formed
 
-none-sound : Sound (emptySet 0)
+none-sound : Sound (empty_set 0)
 none-sound = sound_empty 0 (omega arith)
 
 module _ (n mode k sk : ℕ) (q : Query) (ms vs : List ℕ) (h : k ≤ 256) where
@@ -108,36 +108,36 @@ module _ (n mode k sk : ℕ) (q : Query) (ms vs : List ℕ) (h : k ≤ 256) wher
   shown-sound dr f s true = s
   shown-sound dr f s false = none-sound
 
-  found-sound : Sound (foundOf n mode k sk q ms vs).set
-  unfolding foundOf topRankOf
-  found-sound = by (targetFinite q n) (top_of n q.w (layersOf n q) sk)
+  found-sound : Sound (found_of n mode k sk q ms vs).set
+  unfolding found_of top_rank_of
+  found-sound = by (target_finite q n) (top_of n q.w (layers_of n q) sk)
     where
-      by : (b : Bool) (tp : Top) → Sound (pick b (rankedBy mode k q.w (layersOf n q) ms vs q.target (droppedOf n q) tp) (refused 7)).set
+      by : (b : Bool) (tp : Top) → Sound (pick b (ranked_by mode k q.w (layers_of n q) ms vs q.target (dropped_of n q) tp) (refused 7)).set
       by true (Layer i) =
-          let f = rank_of mode k (layer q.w (layersOf n q) i) ms vs q.target in
-          shown-sound (droppedOf n q) f (rank-sound mode k (layer q.w (layersOf n q) i) ms vs q.target h) (eqb f.refusal 0)
+          let f = rank_of mode k (layer q.w (layers_of n q) i) ms vs q.target in
+          shown-sound (dropped_of n q) f (rank-sound mode k (layer q.w (layers_of n q) i) ms vs q.target h) (eqb f.refusal 0)
       by true Nothing = none-sound
       by false tp = none-sound
 
 not4 : ◌≡◌ {A = ℕ} 4 0 → ⊥
 not4 e = omega arith
 
-k-high : (g : Geo) (bs : List Float) (ix : Ix) (t : List Float) (k : ℕ) (m : Work) → searchRefusal g bs ix t k m ≡ 0 → k ≤ 256
-unfolding searchRefusal
+k-high : (g : Geo) (bs : List Float) (ix : Ix) (t : List Float) (k : ℕ) (m : Work) → search_refusal g bs ix t k m ≡ 0 → k ≤ 256
+unfolding search_refusal
 k-high g bs ix t k m e = by shape (eqb shape 0) refl e
   where
     shape : ℕ
-    shape = searchShape g (length bs) (length ix.faces) (length ix.marks) (length ix.vecs) (length t) (length m.work) (length m.layers) (length m.set)
+    shape = search_shape g (length bs) (length ix.faces) (length ix.marks) (length ix.vecs) (length t) (length m.work) (length m.layers) (length m.set)
 
-    by : (s : ℕ) (b : Bool) → eqb s 0 ≡ b → pick b (refuse 4 (leb k 256) (refuse 5 (allFinite t) 0)) s ≡ 0 → k ≤ 256
-    by s true h e = leb-true _ _ (refuse-ok (leb k 256) 4 (refuse 5 (allFinite t) 0) not4 e)
+    by : (s : ℕ) (b : Bool) → eqb s 0 ≡ b → pick b (refuse 4 (leb k 256) (refuse 5 (all_finite t) 0)) s ≡ 0 → k ≤ 256
+    by s true h e = leb-true _ _ (refuse-ok (leb k 256) 4 (refuse 5 (all_finite t) 0) not4 e)
     by s false h e = absurd (eqb-false s 0 h e)
 
-pub search-sound : (g : Geo) (bs : List Float) (ix : Ix) (t : List Float) (k sk spill : ℕ) (m : Work) → Sound (searchOf g bs ix t k sk spill m).answer.set
-unfolding searchOf
-search-sound g bs ix t k sk spill m = by (eqb (searchRefusal g bs ix t k m) 0) refl
+pub search-sound : (g : Geo) (bs : List Float) (ix : Ix) (t : List Float) (k sk spill : ℕ) (m : Work) → Sound (search_of g bs ix t k sk spill m).answer.set
+unfolding search_of
+search-sound g bs ix t k sk spill m = by (eqb (search_refusal g bs ix t k m) 0) refl
   where
-    by : (b : Bool) → eqb (searchRefusal g bs ix t k m) 0 ≡ b
-        → Sound (pick b (searched (foundOf g.n g.mode k sk (searchedBy g bs ix t spill) ix.marks ix.vecs) (cleared m)) (searched (refused (searchRefusal g bs ix t k m)) m)).answer.set
-    by true h = found-sound g.n g.mode k sk (searchedBy g bs ix t spill) ix.marks ix.vecs (k-high g bs ix t k m (eqb-true _ 0 h))
+    by : (b : Bool) → eqb (search_refusal g bs ix t k m) 0 ≡ b
+        → Sound (pick b (searched (found_of g.n g.mode k sk (searched_by g bs ix t spill) ix.marks ix.vecs) (cleared m)) (searched (refused (search_refusal g bs ix t k m)) m)).answer.set
+    by true h = found-sound g.n g.mode k sk (searched_by g bs ix t spill) ix.marks ix.vecs (k-high g bs ix t k m (eqb-true _ 0 h))
     by false h = none-sound

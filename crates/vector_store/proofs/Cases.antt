@@ -8,10 +8,10 @@ use lib.Dec.{eqb}
 use lib.Ieee.{Float}
 use lib.ListN.{length, take, drop}
 use borrow.Author.Tests.{eq-eqb, ne_eqb, le-leb, lt-leb, eqb-true}
-use Rattle.paper.specs.Geometry.{Geo, geoOk, setWords}
+use Rattle.paper.specs.Geometry.{Geo, geo_ok, set_words}
 use Rattle.paper.proofs.Choice.{and_l, and_r, refuse-ok, refuse-rest}
 use Rattle.paper.proofs.Geometry.{geo-facts, face-words-by-basis}
-use Rattle.index_memory.specs.Memory.{Ix, ownOk, basesOk}
+use Rattle.index_memory.specs.Memory.{Ix, own_ok, bases_ok}
 use Rattle.index_memory.proofs.Lengths.{own-sized, bases-long}
 use Rattle.index_memory.proofs.Places.{part_end, part-long, part-is}
 use Rattle.counting_bitmap.specs.Layers.{layer}
@@ -19,14 +19,14 @@ use Rattle.counting_bitmap.specs.TopLayer.{top_of}
 use Rattle.counting_bitmap.specs.declared.Top.TheVariants.{Layer, Nothing}
 use Rattle.counting_bitmap.proofs.Highest.{top-layer-is}
 use Rattle.result.specs.declared.Fed.{Fed}
-use Rattle.vector.specs.Finite.{allFinite}
+use Rattle.vector.specs.Finite.{all_finite}
 use Rattle.faces.specs.Slots.{picks_of}
 use Rattle.backend_memory.specs.Ranking.{rank_of}
 use Rattle.backend_memory.proofs.Cases.{bytes-by}
-use Rattle.candidates.specs.Gathering.{Query, queryOf, targetFinite, GatherIs}
+use Rattle.candidates.specs.Gathering.{Query, query_of, target_finite, GatherIs}
 use Rattle.candidates.specs.declared.Gathered.{Gathered}
 use Rattle.candidates.proofs.Bases.{was-finite, was-not}
-use Rattle.vector_store.specs.Search.{refused, shown, topRankOf, foundOf, Work, Searched, searched, cleared, workOk, searchShape, searchRefusal, searchOf, FindArgs}
+use Rattle.vector_store.specs.Search.{refused, shown, top_rank_of, found_of, Work, Searched, searched, cleared, work_ok, search_shape, search_refusal, search_of, FindArgs}
 use Rattle.vector_store.specs.declared.Nearest.{Nearest}
 
 -- ---- an answer from a ranking
@@ -41,12 +41,12 @@ module _ (dropped : ℕ) (f : Fed) where
 -- ---- the chosen layer
 
 module _ (n mode k sk w : ℕ) (ls ms vs : List ℕ) (t : List Float) (dr : ℕ) (r : Nearest) where
-  pub top-none : top_of n w ls sk ≡ Nothing → r ≡ refused 8 → r ≡ topRankOf n mode k sk w ls ms vs t dr
-  unfolding topRankOf
+  pub top-none : top_of n w ls sk ≡ Nothing → r ≡ refused 8 → r ≡ top_rank_of n mode k sk w ls ms vs t dr
+  unfolding top_rank_of
   top-none e q = rw e q
 
-  pub top-ranked : (i : ℕ) (f : Fed) → top_of n w ls sk ≡ Layer i → f ≡ rank_of mode k (take (i * w + w - i * w) (drop (i * w) ls)) ms vs t → r ≡ shown dr f → r ≡ topRankOf n mode k sk w ls ms vs t dr
-  unfolding topRankOf
+  pub top-ranked : (i : ℕ) (f : Fed) → top_of n w ls sk ≡ Layer i → f ≡ rank_of mode k (take (i * w + w - i * w) (drop (i * w) ls)) ms vs t → r ≡ shown dr f → r ≡ top_rank_of n mode k sk w ls ms vs t dr
+  unfolding top_rank_of
   top-ranked i f e p q =
       let part : f ≡ rank_of mode k (layer w ls i) ms vs t = p ∙ ap (λ (l : List ℕ). rank_of mode k l ms vs t) (part-is i w (i * w) ls refl) in
       rw e (q ∙ ap (shown dr) part)
@@ -62,13 +62,13 @@ module _ (n w sk i : ℕ) (ls : List ℕ) (e : top_of n w ls sk ≡ Layer i) (l 
 -- ---- past the gathering
 
 module _ (n mode k sk : ℕ) (q : Query) (ms vs ls : List ℕ) (g : Gathered) (r : Nearest) (o : GatherIs n q g ls) where
-  pub found-refused : (g.refusal ≡ 0 → ⊥) → r ≡ refused 7 → r ≡ foundOf n mode k sk q ms vs
-  unfolding foundOf
-  found-refused h e = rw (was-not (targetFinite q n) g.refusal o.answer h) e
+  pub found-refused : (g.refusal ≡ 0 → ⊥) → r ≡ refused 7 → r ≡ found_of n mode k sk q ms vs
+  unfolding found_of
+  found-refused h e = rw (was-not (target_finite q n) g.refusal o.answer h) e
 
-  pub found-done : g.refusal ≡ 0 → r ≡ topRankOf n mode k sk q.w ls ms vs q.target g.dropped → r ≡ foundOf n mode k sk q ms vs
-  unfolding foundOf
-  found-done h e = rw (was-finite (targetFinite q n) g.refusal o.answer h, ← o.layers h, ← o.dropped h) e
+  pub found-done : g.refusal ≡ 0 → r ≡ top_rank_of n mode k sk q.w ls ms vs q.target g.dropped → r ≡ found_of n mode k sk q ms vs
+  unfolding found_of
+  found-done h e = rw (was-finite (target_finite q n) g.refusal o.answer h, ← o.layers h, ← o.dropped h) e
 
 -- ---- the public call
 
@@ -82,43 +82,43 @@ not2 e = omega arith
 pub record WorkFacts (d n cap lt lw ll ls : ℕ) : Type 0 where
   pub target : lt ≡ d
   pub work : lw ≡ d
-  pub layers : ll ≡ n * setWords cap
-  pub set : ls ≡ setWords cap
+  pub layers : ll ≡ n * set_words cap
+  pub set : ls ≡ set_words cap
 
-work-facts : (d n cap lt lw ll ls : ℕ) → workOk d n cap lt lw ll ls ≡ true → WorkFacts d n cap lt lw ll ls
-unfolding workOk
+work-facts : (d n cap lt lw ll ls : ℕ) → work_ok d n cap lt lw ll ls ≡ true → WorkFacts d n cap lt lw ll ls
+unfolding work_ok
 work-facts d n cap lt lw ll ls e =
     let e1 = and_r (eqb lt d) _ e in
     let e2 = and_r (eqb lw d) _ e1 in
     record {
       target = eqb-true _ _ (and_l (eqb lt d) _ e);
       work = eqb-true _ _ (and_l (eqb lw d) _ e1);
-      layers = eqb-true _ _ (and_l (eqb ll (n * setWords cap)) _ e2);
-      set = eqb-true _ _ (and_r (eqb ll (n * setWords cap)) _ e2);
+      layers = eqb-true _ _ (and_l (eqb ll (n * set_words cap)) _ e2);
+      set = eqb-true _ _ (and_r (eqb ll (n * set_words cap)) _ e2);
     }
 
-faces-by : (lf d n cap lt ls : ℕ) → lf ≡ n * (2 * d * setWords cap) → lt ≡ d → ls ≡ setWords cap → lf ≡ n * (2 * lt * ls)
+faces-by : (lf d n cap lt ls : ℕ) → lf ≡ n * (2 * d * set_words cap) → lt ≡ d → ls ≡ set_words cap → lf ≡ n * (2 * lt * ls)
 faces-by lf d n cap lt ls e p q = rw (p, q) e
 
-pub shape-work : (g : Geo) (lb lf lm lv lt lw ll ls : ℕ) → searchShape g lb lf lm lv lt lw ll ls ≡ 0 → WorkFacts g.d g.n g.cap lt lw ll ls
-unfolding searchShape
+pub shape-work : (g : Geo) (lb lf lm lv lt lw ll ls : ℕ) → search_shape g lb lf lm lv lt lw ll ls ≡ 0 → WorkFacts g.d g.n g.cap lt lw ll ls
+unfolding search_shape
 shape-work g lb lf lm lv lt lw ll ls e =
-    let r1 = refuse-rest (geoOk g.d g.n g.cap g.mode) 1 _ not1 e in
-    let r2 = refuse-rest (ownOk g.d g.n g.cap g.mode lf lm lv) 2 _ not2 r1 in
-    let r3 = refuse-rest (basesOk g.d g.n lb) 2 _ not2 r2 in
-    work-facts g.d g.n g.cap lt lw ll ls (refuse-ok (workOk g.d g.n g.cap lt lw ll ls) 2 0 not2 r3)
+    let r1 = refuse-rest (geo_ok g.d g.n g.cap g.mode) 1 _ not1 e in
+    let r2 = refuse-rest (own_ok g.d g.n g.cap g.mode lf lm lv) 2 _ not2 r1 in
+    let r3 = refuse-rest (bases_ok g.d g.n lb) 2 _ not2 r2 in
+    work-facts g.d g.n g.cap lt lw ll ls (refuse-ok (work_ok g.d g.n g.cap lt lw ll ls) 2 0 not2 r3)
 
-pub find-args : (g : Geo) (k lb lf lm lv lt lw ll ls s : ℕ) → s ≡ searchShape g lb lf lm lv lt lw ll ls → s ≡ 0 → k ≤ 256 → FindArgs g.n g.mode k lb lf lm lv lt lw ll ls
-unfolding searchShape
+pub find-args : (g : Geo) (k lb lf lm lv lt lw ll ls s : ℕ) → s ≡ search_shape g lb lf lm lv lt lw ll ls → s ≡ 0 → k ≤ 256 → FindArgs g.n g.mode k lb lf lm lv lt lw ll ls
+unfolding search_shape
 find-args g k lb lf lm lv lt lw ll ls s q z kh =
-    let e : searchShape g lb lf lm lv lt lw ll ls ≡ 0 = sym q ∙ z in
-    let gt = refuse-ok (geoOk g.d g.n g.cap g.mode) 1 _ not1 e in
-    let r1 = refuse-rest (geoOk g.d g.n g.cap g.mode) 1 _ not1 e in
-    let ot = refuse-ok (ownOk g.d g.n g.cap g.mode lf lm lv) 2 _ not2 r1 in
-    let r2 = refuse-rest (ownOk g.d g.n g.cap g.mode lf lm lv) 2 _ not2 r1 in
+    let e : search_shape g lb lf lm lv lt lw ll ls ≡ 0 = sym q ∙ z in
+    let gt = refuse-ok (geo_ok g.d g.n g.cap g.mode) 1 _ not1 e in
+    let r1 = refuse-rest (geo_ok g.d g.n g.cap g.mode) 1 _ not1 e in
+    let ot = refuse-ok (own_ok g.d g.n g.cap g.mode lf lm lv) 2 _ not2 r1 in
+    let r2 = refuse-rest (own_ok g.d g.n g.cap g.mode lf lm lv) 2 _ not2 r1 in
     let G = geo-facts g.d g.n g.cap g.mode gt in
     let O = own-sized g.d g.n g.cap g.mode lf lm lv gt ot in
-    let B = bases-long g.d g.n lb (refuse-ok (basesOk g.d g.n lb) 2 _ not2 r2) in
+    let B = bases-long g.d g.n lb (refuse-ok (bases_ok g.d g.n lb) 2 _ not2 r2) in
     let W = shape-work g lb lf lm lv lt lw ll ls e in
     let c : g.cap ≡ ls * 64 = omega (arith, W.set, G.cap-even) in
     record {
@@ -137,27 +137,27 @@ find-args g k lb lf lm lv lt lw ll ls s q z kh =
 
 module _ (g : Geo) (bs : List Float) (ix : Ix) (t : List Float) (k sk spill : ℕ) (m : Work) where
   abbrev shape : ℕ
-  shape = searchShape g (length bs) (length ix.faces) (length ix.marks) (length ix.vecs) (length t) (length m.work) (length m.layers) (length m.set)
+  shape = search_shape g (length bs) (length ix.faces) (length ix.marks) (length ix.vecs) (length t) (length m.work) (length m.layers) (length m.set)
 
-  pub search-shape : (s : ℕ) (r : Nearest) → s ≡ shape → (s ≡ 0 → ⊥) → r ≡ refused s → searched r m ≡ searchOf g bs ix t k sk spill m
-  unfolding searchOf searchRefusal
+  pub search-shape : (s : ℕ) (r : Nearest) → s ≡ shape → (s ≡ 0 → ⊥) → r ≡ refused s → searched r m ≡ search_of g bs ix t k sk spill m
+  unfolding search_of search_refusal
   search-shape s r e h q = simp (← e, ne_eqb s 0 h, q)
 
-  pub search-four : (s : ℕ) (r : Nearest) → s ≡ shape → s ≡ 0 → 256 < k → r ≡ refused 4 → searched r m ≡ searchOf g bs ix t k sk spill m
-  unfolding searchOf searchRefusal
+  pub search-four : (s : ℕ) (r : Nearest) → s ≡ shape → s ≡ 0 → 256 < k → r ≡ refused 4 → searched r m ≡ search_of g bs ix t k sk spill m
+  unfolding search_of search_refusal
   search-four s r e z h q = simp (← e, eq-eqb s 0 z, lt-leb k 256 h, q)
 
-  pub search-five : (s : ℕ) (r : Nearest) → s ≡ shape → s ≡ 0 → k ≤ 256 → allFinite t ≡ false → r ≡ refused 5 → searched r m ≡ searchOf g bs ix t k sk spill m
-  unfolding searchOf searchRefusal
+  pub search-five : (s : ℕ) (r : Nearest) → s ≡ shape → s ≡ 0 → k ≤ 256 → all_finite t ≡ false → r ≡ refused 5 → searched r m ≡ search_of g bs ix t k sk spill m
+  unfolding search_of search_refusal
   search-five s r e z h f q = simp (← e, eq-eqb s 0 z, le-leb k 256 h, f, q)
 
-  pub search-done : (s : ℕ) (x : Searched) (picks : ℕ) → s ≡ shape → s ≡ 0 → k ≤ 256 → allFinite t ≡ true → picks ≡ picks_of g.d spill
-      → x ≡ searched (foundOf g.n g.mode k sk (queryOf bs ix.faces t (length m.set) picks) ix.marks ix.vecs) (cleared m) → x ≡ searchOf g bs ix t k sk spill m
-  unfolding searchOf searchRefusal
+  pub search-done : (s : ℕ) (x : Searched) (picks : ℕ) → s ≡ shape → s ≡ 0 → k ≤ 256 → all_finite t ≡ true → picks ≡ picks_of g.d spill
+      → x ≡ searched (found_of g.n g.mode k sk (query_of bs ix.faces t (length m.set) picks) ix.marks ix.vecs) (cleared m) → x ≡ search_of g bs ix t k sk spill m
+  unfolding search_of search_refusal
   search-done s x picks e y h f p q =
       let z : shape ≡ 0 = sym e ∙ y in
       let W = shape-work g (length bs) (length ix.faces) (length ix.marks) (length ix.vecs) (length t) (length m.work) (length m.layers) (length m.set) z in
-      let q' : x ≡ searched (foundOf g.n g.mode k sk (queryOf bs ix.faces t (setWords g.cap) (picks_of g.d spill)) ix.marks ix.vecs) (cleared m) =
-      q ∙ ap (λ (v : ℕ). searched (foundOf g.n g.mode k sk (queryOf bs ix.faces t v picks) ix.marks ix.vecs) (cleared m)) W.set
-      ∙ ap (λ (v : ℕ). searched (foundOf g.n g.mode k sk (queryOf bs ix.faces t (setWords g.cap) v) ix.marks ix.vecs) (cleared m)) p in
+      let q' : x ≡ searched (found_of g.n g.mode k sk (query_of bs ix.faces t (set_words g.cap) (picks_of g.d spill)) ix.marks ix.vecs) (cleared m) =
+      q ∙ ap (λ (v : ℕ). searched (found_of g.n g.mode k sk (query_of bs ix.faces t v picks) ix.marks ix.vecs) (cleared m)) W.set
+      ∙ ap (λ (v : ℕ). searched (found_of g.n g.mode k sk (query_of bs ix.faces t (set_words g.cap) v) ix.marks ix.vecs) (cleared m)) p in
       rw (eq-eqb shape 0 z, le-leb k 256 h, f) q'

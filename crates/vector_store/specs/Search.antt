@@ -1,45 +1,45 @@
 -- What a search refuses, what it answers, and what it leaves in the work memories (01, "Refusal numbers" and "Store and search").
 use Rattle.std.specs.Prelude.{ℕ, ◌*◌, ◌≤◌, ◌≡◌, Bool, true, List, leb, eqb, Float, length}
 use Rattle.paper.specs.Choice.{◌and◌, pick, refuse}
-use Rattle.paper.specs.Geometry.{Geo, geoOk, setWords}
-use Rattle.index_memory.specs.Memory.{Ix, ownOk, basesOk, slotBytes, floatZeros}
+use Rattle.paper.specs.Geometry.{Geo, geo_ok, set_words}
+use Rattle.index_memory.specs.Memory.{Ix, own_ok, bases_ok, slot_bytes, float_zeros}
 use Rattle.bitmaps.specs.Words.{empty}
 use Rattle.counting_bitmap.specs.Layers.{layer}
 use Rattle.counting_bitmap.specs.TopLayer.{top_of}
 use Rattle.counting_bitmap.specs.declared.Top.{Top}
 use Rattle.counting_bitmap.specs.declared.Top.TheVariants.{Layer, Nothing}
-use Rattle.result.specs.Sets.{emptySet}
+use Rattle.result.specs.Sets.{empty_set}
 use Rattle.result.specs.declared.Fed.{Fed}
-use Rattle.vector.specs.Finite.{allFinite}
+use Rattle.vector.specs.Finite.{all_finite}
 use Rattle.faces.specs.Slots.{picks_of}
 use Rattle.backend_memory.specs.Ranking.{rank_of}
-use Rattle.candidates.specs.Gathering.{Query, queryOf, targetFinite, layersOf, droppedOf}
+use Rattle.candidates.specs.Gathering.{Query, query_of, target_finite, layers_of, dropped_of}
 use Rattle.vector_store.specs.declared.Nearest.{Nearest}
 
 -- ---- the answer
 
 -- a refused search: an empty list with k 0 and checked 0, and no id dropped
 abbrev pub refused : ℕ → Nearest
-refused num = record { refusal = num; set = emptySet 0; dropped = 0 }
+refused num = record { refusal = num; set = empty_set 0; dropped = 0 }
 
 -- a ranking's answer, with the dropped total beside an accepted list
 abbrev pub shown : ℕ → Fed → Nearest
 shown dropped fed = pick (eqb fed.refusal 0) (record { refusal = 0; set = fed.set; dropped = dropped }) (refused fed.refusal)
 
 -- the chosen layer's ids, ranked; 8 where no layer is chosen
-abbrev pub rankedBy : ℕ → ℕ → ℕ → List ℕ → List ℕ → List ℕ → List Float → ℕ → Top → Nearest
-rankedBy mode k w ls ms vs t dropped (Layer i) = shown dropped (rank_of mode k (layer w ls i) ms vs t)
-rankedBy mode k w ls ms vs t dropped Nothing = refused 8
+abbrev pub ranked_by : ℕ → ℕ → ℕ → List ℕ → List ℕ → List ℕ → List Float → ℕ → Top → Nearest
+ranked_by mode k w ls ms vs t dropped (Layer i) = shown dropped (rank_of mode k (layer w ls i) ms vs t)
+ranked_by mode k w ls ms vs t dropped Nothing = refused 8
 
 -- the chosen layer is the highest of n that has at least sk ids
-unfoldable pub topRankOf : ℕ → ℕ → ℕ → ℕ → ℕ → List ℕ → List ℕ → List ℕ → List Float → ℕ → Nearest
-topRankOf n mode k sk w ls ms vs t dropped = rankedBy mode k w ls ms vs t dropped (top_of n w ls sk)
+unfoldable pub top_rank_of : ℕ → ℕ → ℕ → ℕ → ℕ → List ℕ → List ℕ → List ℕ → List Float → ℕ → Nearest
+top_rank_of n mode k sk w ls ms vs t dropped = ranked_by mode k w ls ms vs t dropped (top_of n w ls sk)
 
 -- 7 if an entry of any projection is not finite, else what is chosen of the layers that the bases' unions make
-unfoldable pub foundOf : ℕ → ℕ → ℕ → ℕ → Query → List ℕ → List ℕ → Nearest
-foundOf n mode k sk q ms vs =
-    pick (targetFinite q n)
-    (topRankOf n mode k sk q.w (layersOf n q) ms vs q.target (droppedOf n q))
+unfoldable pub found_of : ℕ → ℕ → ℕ → ℕ → Query → List ℕ → List ℕ → Nearest
+found_of n mode k sk q ms vs =
+    pick (target_finite q n)
+    (top_rank_of n mode k sk q.w (layers_of n q) ms vs q.target (dropped_of n q))
     (refused 7)
 
 -- ---- the whole call
@@ -55,7 +55,7 @@ works w l s = record { work = w; layers = l; set = s }
 
 -- all zeros, of the same lengths
 abbrev pub cleared : Work → Work
-cleared m = works (floatZeros (length m.work)) (empty (length m.layers)) (empty (length m.set))
+cleared m = works (float_zeros (length m.work)) (empty (length m.layers)) (empty (length m.set))
 
 -- an answer, and the work memories afterwards
 pub record Searched : Type 0 where
@@ -66,44 +66,44 @@ abbrev pub searched : Nearest → Work → Searched
 searched a m = record { answer = a; memory = m }
 
 -- the lengths of target, work, layers and set
-unfoldable pub workOk : ℕ → ℕ → ℕ → ℕ → ℕ → ℕ → ℕ → Bool
-workOk d n cap lt lw ll ls = eqb lt d and eqb lw d and eqb ll (n * setWords cap) and eqb ls (setWords cap)
+unfoldable pub work_ok : ℕ → ℕ → ℕ → ℕ → ℕ → ℕ → ℕ → Bool
+work_ok d n cap lt lw ll ls = eqb lt d and eqb lw d and eqb ll (n * set_words cap) and eqb ls (set_words cap)
 
 -- 1 for the geometry, then 2 for the length of bases, face sets, marks, vectors, target, work, layers or set
-unfoldable pub searchShape : Geo → ℕ → ℕ → ℕ → ℕ → ℕ → ℕ → ℕ → ℕ → ℕ
-searchShape g lb lf lm lv lt lw ll ls =
-    refuse 1 (geoOk g.d g.n g.cap g.mode)
-    (refuse 2 (ownOk g.d g.n g.cap g.mode lf lm lv)
-    (refuse 2 (basesOk g.d g.n lb)
-    (refuse 2 (workOk g.d g.n g.cap lt lw ll ls) 0)))
+unfoldable pub search_shape : Geo → ℕ → ℕ → ℕ → ℕ → ℕ → ℕ → ℕ → ℕ → ℕ
+search_shape g lb lf lm lv lt lw ll ls =
+    refuse 1 (geo_ok g.d g.n g.cap g.mode)
+    (refuse 2 (own_ok g.d g.n g.cap g.mode lf lm lv)
+    (refuse 2 (bases_ok g.d g.n lb)
+    (refuse 2 (work_ok g.d g.n g.cap lt lw ll ls) 0)))
 
 -- 1, 2, 4 and 5 in their order, or 0
-unfoldable pub searchRefusal : Geo → List Float → Ix → List Float → ℕ → Work → ℕ
-searchRefusal g bs ix t k m =
-    let shape = searchShape g (length bs) (length ix.faces) (length ix.marks) (length ix.vecs) (length t) (length m.work) (length m.layers) (length m.set) in
-    pick (eqb shape 0) (refuse 4 (leb k 256) (refuse 5 (allFinite t) 0)) shape
+unfoldable pub search_refusal : Geo → List Float → Ix → List Float → ℕ → Work → ℕ
+search_refusal g bs ix t k m =
+    let shape = search_shape g (length bs) (length ix.faces) (length ix.marks) (length ix.vecs) (length t) (length m.work) (length m.layers) (length m.set) in
+    pick (eqb shape 0) (refuse 4 (leb k 256) (refuse 5 (all_finite t) 0)) shape
 
 -- what the whole call goes by: the picks are the spill + 1 that it asks, at most d
-abbrev pub searchedBy : Geo → List Float → Ix → List Float → ℕ → Query
-searchedBy g bs ix t spill = queryOf bs ix.faces t (setWords g.cap) (picks_of g.d spill)
+abbrev pub searched_by : Geo → List Float → Ix → List Float → ℕ → Query
+searched_by g bs ix t spill = query_of bs ix.faces t (set_words g.cap) (picks_of g.d spill)
 
 -- refusals 1 to 5 change nothing; past them the work memories are all zeros, whatever the answer
-unfoldable pub searchOf : Geo → List Float → Ix → List Float → ℕ → ℕ → ℕ → Work → Searched
-searchOf g bs ix t k sk spill m =
-    let num = searchRefusal g bs ix t k m in
+unfoldable pub search_of : Geo → List Float → Ix → List Float → ℕ → ℕ → ℕ → Work → Searched
+search_of g bs ix t k sk spill m =
+    let num = search_refusal g bs ix t k m in
     pick (eqb num 0)
-    (searched (foundOf g.n g.mode k sk (searchedBy g bs ix t spill) ix.marks ix.vecs) (cleared m))
+    (searched (found_of g.n g.mode k sk (searched_by g bs ix t spill) ix.marks ix.vecs) (cleared m))
     (searched (refused num) m)
 
 -- ---- an accepted search
 
 -- an answer that is not a refusal: every projection was finite, layer `at` was chosen, and its ids were ranked
 pub record AcceptedSearch (n mode k sk : ℕ) (q : Query) (ms vs : List ℕ) (r : Nearest) : Type 0 where
-  pub finite : targetFinite q n ≡ true
+  pub finite : target_finite q n ≡ true
   pub at : ℕ
-  pub chosen : top_of n q.w (layersOf n q) sk ≡ Layer at
-  pub good : (rank_of mode k (layer q.w (layersOf n q) at) ms vs q.target).refusal ≡ 0
-  pub ranked : r.set ≡ (rank_of mode k (layer q.w (layersOf n q) at) ms vs q.target).set
+  pub chosen : top_of n q.w (layers_of n q) sk ≡ Layer at
+  pub good : (rank_of mode k (layer q.w (layers_of n q) at) ms vs q.target).refusal ≡ 0
+  pub ranked : r.set ≡ (rank_of mode k (layer q.w (layers_of n q) at) ms vs q.target).set
   pub dropped : r.dropped ≡ 0
 
 -- ---- what the inner calls ask of lengths
@@ -115,7 +115,7 @@ pub record TopArgs (n w mode k ll lm lv lt : ℕ) : Type 0 where
   pub marks : lm ≡ w
   pub d-low : 1 ≤ lt
   pub d-high : lt ≤ 1024
-  pub vectors : lv ≡ w * 64 * slotBytes lt mode
+  pub vectors : lv ≡ w * 64 * slot_bytes lt mode
 
 pub record FindArgs (n mode k lb lf lm lv lt lw ll ls : ℕ) : Type 0 where
   pub n-high : n ≤ 32
@@ -126,6 +126,6 @@ pub record FindArgs (n mode k lb lf lm lv lt lw ll ls : ℕ) : Type 0 where
   pub bases : lb ≡ n * (lt * lt)
   pub faces : lf ≡ n * (2 * lt * ls)
   pub marks : lm ≡ ls
-  pub vectors : lv ≡ ls * 64 * slotBytes lt mode
+  pub vectors : lv ≡ ls * 64 * slot_bytes lt mode
   pub work : lw ≡ lt
   pub layers : ll ≡ n * ls

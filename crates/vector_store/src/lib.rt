@@ -3,10 +3,10 @@
 
 ghost use Rattle.std.specs.Prelude.{◌≡◌, ◌≤◌, length};
 ghost use Rattle.paper.specs.Geometry.{geo};
-ghost use Rattle.index_memory.specs.Memory.{ixOf};
-ghost use Rattle.backend_memory.specs.Scan.{scanOf};
-ghost use Rattle.candidates.specs.Gathering.{queryOf};
-ghost use Rattle.vector_store.specs.Search.{refused, shown, topRankOf, foundOf, works, searched, cleared, workOk, searchShape, searchOf, TopArgs, FindArgs};
+ghost use Rattle.index_memory.specs.Memory.{ix_of};
+ghost use Rattle.backend_memory.specs.Scan.{scan_of};
+ghost use Rattle.candidates.specs.Gathering.{query_of};
+ghost use Rattle.vector_store.specs.Search.{refused, shown, top_rank_of, found_of, works, searched, cleared, work_ok, search_shape, search_of, TopArgs, FindArgs};
 ghost use Rattle.vector_store.specs.Laws.{Laws};
 
 use counting_bitmap::Top;
@@ -58,7 +58,7 @@ fn work_lengths_ok(
     set: usize,
 ) -> bool
     requires { (n ≤ 32) × (cap ≤ 65536) }
-    ensures { result ≡ workOk d n cap target work layers set }
+    ensures { result ≡ work_ok d n cap target work layers set }
 {
     if target != d {
         return false;
@@ -87,7 +87,7 @@ fn shape_refusal(
     layers: usize,
     set: usize,
 ) -> u32
-    ensures { result ≡ searchShape (geo d n cap mode) bases faces marks vectors target work layers set }
+    ensures { result ≡ search_shape (geo d n cap mode) bases faces marks vectors target work layers set }
 {
     if !paper::geometry_ok(d, n, cap, mode) {
         return paper::WRONG_GEOMETRY;
@@ -118,7 +118,7 @@ fn rank_top(
     dropped: u32,
 ) -> Nearest
     requires { TopArgs n w mode k (length layers.now) (length marks.now) (length vectors.now) (length target.now) }
-    ensures { result ≡ topRankOf n mode k search_k w layers.now marks.now vectors.now target.now dropped }
+    ensures { result ≡ top_rank_of n mode k search_k w layers.now marks.now vectors.now target.now dropped }
 {
     match counting_bitmap::inner::top_layer(layers, n, w, search_k) {
         Top::Layer(i) => {
@@ -150,7 +150,7 @@ fn find_nearest_internal(
     picks: usize,
 ) -> Nearest
     requires { FindArgs n mode k (length bases.now) (length faces.now) (length marks.now) (length vectors.now) (length target.now) (length work.old) (length layers.old) (length set.old) }
-    ensures { result ≡ foundOf n mode k search_k (queryOf bases.now faces.now target.now (length set.old) picks) marks.now vectors.now }
+    ensures { result ≡ found_of n mode k search_k (query_of bases.now faces.now target.now (length set.old) picks) marks.now vectors.now }
 {
     let w = set.len();
     let gathered = candidates::inner::gather(bases, faces, target, work, layers, set, n, picks);
@@ -189,7 +189,7 @@ fn find_and_clear(
 ) -> Nearest
     requires { FindArgs n mode k (length bases.now) (length faces.now) (length marks.now) (length vectors.now) (length target.now) (length work.old) (length layers.old) (length set.old) }
     ensures { searched result (works work.new layers.new set.new)
-        ≡ searched (foundOf n mode k search_k (queryOf bases.now faces.now target.now (length set.old) picks) marks.now vectors.now)
+        ≡ searched (found_of n mode k search_k (query_of bases.now faces.now target.now (length set.old) picks) marks.now vectors.now)
         (cleared (works work.old layers.old set.old)) }
 {
     let nearest = find_nearest_internal(
@@ -225,7 +225,7 @@ pub fn find_nearest(
     spill: usize,
 ) -> Nearest
     ensures { searched result (works work.new layers.new set.new)
-        ≡ searchOf (geo d n cap mode) bases.now (ixOf faces.now marks.now vectors.now) target.now k search_k spill
+        ≡ search_of (geo d n cap mode) bases.now (ix_of faces.now marks.now vectors.now) target.now k search_k spill
         (works work.old layers.old set.old) }
 {
     let num = shape_refusal(
@@ -269,7 +269,7 @@ pub fn full_table_scan(
     mode: usize,
     k: usize,
 ) -> Fed
-    ensures { result ≡ scanOf (geo d n cap mode) marks.now vectors.now target.now k }
+    ensures { result ≡ scan_of (geo d n cap mode) marks.now vectors.now target.now k }
 {
     backend_memory::full_table_scan(marks, vectors, target, d, n, cap, mode, k)
 }

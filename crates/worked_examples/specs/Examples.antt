@@ -5,15 +5,15 @@ use Rattle.std.specs.Float.{binary32}
 use Rattle.std.specs.Float.Ieee.{of_bits}
 use Rattle.sqrt.specs.Root.{Sqrt}
 use Rattle.quantization.specs.Bf16.{lowered}
-use Rattle.faces.specs.Slots.{faceOf}
-use Rattle.faces.specs.Answer.{faceNumber, FaceIs, spilling, listed, spillOf}
+use Rattle.faces.specs.Slots.{face_of}
+use Rattle.faces.specs.Answer.{face_number, FaceIs, spilling, listed, spill_of}
 use Rattle.faces.specs.declared.FaceAnswer.{FaceAnswer}
 use Rattle.faces.specs.declared.FaceAnswer.TheVariants.{Face}
 use Rattle.bitmaps.specs.Words.{inserted, empty}
 use Rattle.bitmaps.specs.Walk.{ids_of}
-use Rattle.counting_bitmap.specs.Layers.{layer, merged, mergedAll}
+use Rattle.counting_bitmap.specs.Layers.{layer, merged, merged_all}
 use Rattle.counting_bitmap.specs.TopLayer.{top_of}
-use Rattle.counting_bitmap.specs.Answers.{mergeFault, layersFault, ChosenIs}
+use Rattle.counting_bitmap.specs.Answers.{merge_fault, layers_fault, ChosenIs}
 use Rattle.counting_bitmap.specs.declared.Chosen.{Chosen}
 use Rattle.counting_bitmap.specs.declared.Chosen.TheVariants.{Layer, Refused}
 use Rattle.result.specs.Ranked.{Entry, entry}
@@ -63,14 +63,14 @@ abbrev pub floats : List ℕ → List Float
 floats bits = map (of_bits binary32) bits
 
 -- a set of one word
-abbrev pub setOf : List ℕ → List ℕ
-setOf [] = empty 1
-setOf (i ∷ is) = inserted (setOf is) i
+abbrev pub set_of : List ℕ → List ℕ
+set_of [] = empty 1
+set_of (i ∷ is) = inserted (set_of is) i
 
 -- the sets merged in turn into these n layers: no merge is refused
 abbrev pub Accepted : ℕ → List ℕ → List (List ℕ) → Type 0
 Accepted n ls [] = Unit
-Accepted n ls (s ∷ ss) = (mergeFault 64 n (length ls) (length s) ≡ 0) × Accepted n (merged n 1 ls s) ss
+Accepted n ls (s ∷ ss) = (merge_fault 64 n (length ls) (length s) ≡ 0) × Accepted n (merged n 1 ls s) ss
 
 -- layer j and those after it hold the ids listed
 abbrev pub LayersAre : List ℕ → ℕ → List (List ℕ) → Type 0
@@ -80,7 +80,7 @@ LayersAre ls j (is ∷ rest) = (ids_of (layer 1 ls j) ≡ is) × LayersAre ls (s
 -- of these n layers each search_k gets the answer beside it
 abbrev pub Picks : ℕ → List ℕ → List (ℕ × Chosen) → Type 0
 Picks n ls [] = Unit
-Picks n ls (p ∷ ps) = ChosenIs (layersFault 64 n (length ls)) (top_of n 1 ls p.0) p.1 × Picks n ls ps
+Picks n ls (p ∷ ps) = ChosenIs (layers_fault 64 n (length ls)) (top_of n 1 ls p.0) p.1 × Picks n ls ps
 
 abbrev pub entry_of : ℕ × ℕ → Entry
 entry_of (id, bits) = entry id (of_bits binary32 bits)
@@ -88,12 +88,12 @@ entry_of (id, bits) = entry id (of_bits binary32 bits)
 abbrev pub Holds : Example → Type 0
 Holds (root b q) = Sqrt b q
 Holds (half b h) = lowered b ≡ h
-Holds (face bits r) = FaceIs r (faceNumber (floats bits)) (faceOf (floats bits))
-Holds (spill bits s fs after) = spilling (listed 0 (length fs) fs) (floats after) ≡ spillOf s (floats bits)
+Holds (face bits r) = FaceIs r (face_number (floats bits)) (face_of (floats bits))
+Holds (spill bits s fs after) = spilling (listed 0 (length fs) fs) (floats after) ≡ spill_of s (floats bits)
 Holds (layers sets ls ps) =
     let n = length sets in
-    let after = mergedAll n 1 (empty n) (map setOf sets) in
-    Accepted n (empty n) (map setOf sets) × LayersAre after 0 ls × Picks n after ps
+    let after = merged_all n 1 (empty n) (map set_of sets) in
+    Accepted n (empty n) (map set_of sets) × LayersAre after 0 ls × Picks n after ps
 Holds (feeds k given list c) = Leaves k (map entry_of given) (map entry_of list) c
 
 abbrev pub All : List Example → Type 0

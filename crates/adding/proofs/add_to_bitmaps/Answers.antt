@@ -5,14 +5,14 @@ use native.Mathlib.Omega.{arith}
 use native.Mathlib.Nat.{mul-le-mul, le_refl}
 use borrow.Author.Rules.{rules}
 use lib.ListN.{length, get_or}
-use Rattle.index_memory.specs.Memory.{faceBit}
+use Rattle.index_memory.specs.Memory.{face_bit}
 use Rattle.index_memory.proofs.Places.{face-bit-low}
-use Rattle.adding.specs.Adding.{withFaces}
+use Rattle.adding.specs.Adding.{with_faces}
 use Rattle.adding.proofs.Turns.{with-more}
 use Rattle.adding.proofs.add_to_bitmaps.Goals as goal
 
 pub loop-b-init : goal.loop-b-init
-unfolding withFaces
+unfolding with_faces
 loop-b-init c = (search rules, refl, refl)
 
 pub overflow_mul-d : goal.overflow_mul-d
@@ -52,7 +52,7 @@ pub add-requires : goal.add-requires
 add-requires c =
     let a = c.args in
     let p = face-bit-low a.d a.n a.cap c.loop-b.b (get_or a.slots c.loop-b.b 0) a.id c.requires.cap-even c.loop-b-test.true (c.requires.low c.loop-b.b c.loop-b-test.true) c.requires.id-low in
-    subst (λ (k : ℕ). faceBit a.d a.cap c.loop-b.b (get_or a.slots c.loop-b.b 0) a.id < k * 64) (sym (c.loop-b.invariant.1 ∙ c.requires.faces)) p
+    subst (λ (k : ℕ). face_bit a.d a.cap c.loop-b.b (get_or a.slots c.loop-b.b 0) a.id < k * 64) (sym (c.loop-b.invariant.1 ∙ c.requires.faces)) p
 
 pub overflow_add-b-in-loop-b-2 : goal.overflow_add-b-in-loop-b-2
 overflow_add-b-in-loop-b-2 c = omega (arith, c.requires.n-high, c.loop-b-test)
@@ -75,4 +75,4 @@ pub returns : goal.returns
 returns c =
     let a = c.args in
     let e : c.loop-b.b ≡ a.n = omega (arith, c.loop-b.invariant, c.loop-b-test) in
-    c.loop-b.invariant.2 ∙ ap (λ (k : ℕ). withFaces a.d a.cap a.id (λ j. get_or a.slots j 0) k a.faces.now) e
+    c.loop-b.invariant.2 ∙ ap (λ (k : ℕ). with_faces a.d a.cap a.id (λ j. get_or a.slots j 0) k a.faces.now) e

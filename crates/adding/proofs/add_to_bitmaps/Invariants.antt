@@ -4,15 +4,15 @@ use native.Mathlib.Omega.{arith}
 use native.Mathlib.Nat.{mul-le-mul, le_refl}
 use borrow.Author.Rules.{rules}
 use lib.ListN.{length, get_or}
-use Rattle.index_memory.specs.Memory.{faceBit}
+use Rattle.index_memory.specs.Memory.{face_bit}
 use Rattle.index_memory.proofs.Places.{face-bit-low}
-use Rattle.adding.specs.Adding.{withFaces}
+use Rattle.adding.specs.Adding.{with_faces}
 use Rattle.adding.proofs.Turns.{with-more}
 use Rattle.adding.proofs.add_to_bitmaps.Given as goal
 
 abbrev pub invariant-loop-b : goal.invariant-loop-b
 invariant-loop-b l =
-    (l.b ≤ l.n) × (length l.faces ≡ length l.initial.faces) × (l.faces ≡ withFaces l.d l.cap l.id (λ j. get_or l.slots j 0) l.b l.initial.faces)
+    (l.b ≤ l.n) × (length l.faces ≡ length l.initial.faces) × (l.faces ≡ with_faces l.d l.cap l.id (λ j. get_or l.slots j 0) l.b l.initial.faces)
 
 abbrev pub decreases-loop-b : goal.decreases-loop-b
 decreases-loop-b l = l.n - l.b

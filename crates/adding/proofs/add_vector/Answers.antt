@@ -3,7 +3,7 @@ use Prim.Native.Nat.{ℕ}
 use mathlib.Core.Path.{◌∙◌, sym, ap}
 use borrow.Author.Tests.{not-true, not-false}
 use Rattle.paper.specs.Geometry.{geo}
-use Rattle.index_memory.specs.Memory.{floatZeros}
+use Rattle.index_memory.specs.Memory.{float_zeros}
 use Rattle.adding.proofs.Shape.{shaped-by}
 use Rattle.adding.proofs.Cases.{shape-refused, five-refused, late-done}
 use borrow.Author.Rules.{rules}
@@ -21,4 +21,4 @@ check_and_write-r-requires c = let a = c.args in shaped-by (geo a.d a.n a.cap a.
 pub returns : goal.returns
 returns c =
     late-done _ _ _ _ _ _ _ _ _ _ c.shape_refusal-s.ensures c.if-s-ne0.false (sym c.all_finite.ensures ∙ c.if-not-all_finite.false) c.check_and_write-r.ensures.0 c.check_and_write-r.ensures.1
-    (c.clear_floats.ensures ∙ ap (λ (k : ℕ). floatZeros k) c.check_and_write-r.auto.work)
+    (c.clear_floats.ensures ∙ ap (λ (k : ℕ). float_zeros k) c.check_and_write-r.auto.work)

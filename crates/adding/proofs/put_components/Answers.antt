@@ -8,7 +8,7 @@ use borrow.Author.Rules.{rules}
 use lib.ListN.{length, take}
 use lib.Seq.{sets, take_all}
 use Rattle.paper.proofs.Geometry.{comp-le}
-use Rattle.quantization.specs.Stored.{lowerBytes}
+use Rattle.quantization.specs.Stored.{lower_bytes}
 use Rattle.adding.proofs.Turns.{lowered-more, lowered_none, room}
 use Rattle.adding.proofs.put_components.Goals as goal
 
@@ -57,4 +57,4 @@ shape_of-vectors c = c.loop-i.invariant.1
 pub returns : goal.returns
 returns c =
     let a = c.args in
-    c.loop-i.invariant.2 ∙ ap (λ (r : List _). sets a.vectors.now a.at (lowerBytes a.mode r)) (take_all c.loop-i.i a.work.now c.loop-i-test.false)
+    c.loop-i.invariant.2 ∙ ap (λ (r : List _). sets a.vectors.now a.at (lower_bytes a.mode r)) (take_all c.loop-i.i a.work.now c.loop-i-test.false)

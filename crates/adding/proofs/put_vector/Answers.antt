@@ -4,10 +4,10 @@ use mathlib.Core.Path.{◌≡◌, ◌∙◌, sym, refl, subst}
 use native.Mathlib.Omega.{arith}
 use native.Mathlib.Nat.{mul-le-mul}
 use lib.ListN.{length}
-use Rattle.paper.specs.Geometry.{compSize}
+use Rattle.paper.specs.Geometry.{comp_size}
 use Rattle.paper.proofs.Geometry.{comp-le}
 use Rattle.index_memory.proofs.Places.{place}
-use Rattle.adding.specs.Adding.{withVector}
+use Rattle.adding.specs.Adding.{with_vector}
 use borrow.Author.Rules.{rules}
 use Rattle.adding.proofs.put_vector.Goals as goal
 
@@ -26,9 +26,9 @@ pub put_components-requires : goal.put_components-requires
 put_components-requires c =
     let a = c.args in
     let e : length c.normalize_into.new.work ≡ a.d = c.normalize_into.auto.work ∙ c.requires.work in
-    let p = place a.id a.cap (compSize a.mode * a.d) c.requires.id-low in
-    rw (c.component_size-size.ensures, e) (subst (λ (k : ℕ). a.id * (compSize a.mode * a.d) + compSize a.mode * a.d ≤ k) (sym c.requires.vectors) p)
+    let p = place a.id a.cap (comp_size a.mode * a.d) c.requires.id-low in
+    rw (c.component_size-size.ensures, e) (subst (λ (k : ℕ). a.id * (comp_size a.mode * a.d) + comp_size a.mode * a.d ≤ k) (sym c.requires.vectors) p)
 
 pub returns : goal.returns
-unfolding withVector
+unfolding with_vector
 returns c = c.put_components.ensures ∙ rw (c.component_size-size.ensures, c.normalize_into.ensures.1) refl

@@ -8,10 +8,10 @@ use borrow.Author.Rules.{rules}
 use borrow.Author.Tests.{not-true, not-false}
 use lib.ListN.{length, get_or, length-set}
 use Rattle.index_memory.proofs.Places.{part_end, part-long}
-use Rattle.vector.specs.Finite.{allFinite}
+use Rattle.vector.specs.Finite.{all_finite}
 use Rattle.faces.specs.Slots.{slot_of}
-use Rattle.basis.specs.Bases.{projectionAt, projectionsFinite}
-use Rattle.adding.specs.Adding.{faceSlot}
+use Rattle.basis.specs.Bases.{projection_at, projections_finite}
+use Rattle.adding.specs.Adding.{face_slot}
 use Rattle.basis.proofs.Bases.{finite-more, finite-no}
 use Rattle.adding.proofs.Turns.{projection-here, next-part, slot-more}
 use Rattle.adding.proofs.Cases.{slots-refused, slots-found}
@@ -22,7 +22,7 @@ pub overflow_mul-square : goal.overflow_mul-square
 overflow_mul-square c = omega (arith, mul-le-mul c.requires.d-high c.requires.d-high)
 
 pub loop-b-init : goal.loop-b-init
-unfolding projectionsFinite
+unfolding projections_finite
 loop-b-init c = (search rules, omega arith, c.requires.work, refl, refl, λ j (l : j < 0). absurd (omega arith))
 
 -- a basis is there for this turn
@@ -55,7 +55,7 @@ pub returns-then-not-all_finite : goal.returns-then-not-all_finite
 returns-then-not-all_finite c =
     let a = c.args in
     let w = c.project.ensures ∙ projection-here a.d c.loop-b.p c.loop-b.b a.bases.now a.v.now c.loop-b.invariant.1 in
-    let f : allFinite (projectionAt a.d a.bases.now a.v.now c.loop-b.b) ≡ false = ap allFinite (sym w) ∙ sym c.all_finite.ensures ∙ c.if-not-all_finite.true in
+    let f : all_finite (projection_at a.d a.bases.now a.v.now c.loop-b.b) ≡ false = ap all_finite (sym w) ∙ sym c.all_finite.ensures ∙ c.if-not-all_finite.true in
     slots-refused a.d a.n a.bases.now a.v.now c.loop-b.slots (finite-no a.d a.bases.now a.v.now a.n c.loop-b.b c.loop-b-test.true f)
 
 pub slot-requires : goal.slot-requires
@@ -86,14 +86,14 @@ pub loop-b-preserved : goal.loop-b-preserved
 loop-b-preserved c =
     let a = c.args in
     let w = c.project.ensures ∙ projection-here a.d c.loop-b.p c.loop-b.b a.bases.now a.v.now c.loop-b.invariant.1 in
-    let f : allFinite (projectionAt a.d a.bases.now a.v.now c.loop-b.b) ≡ true = ap allFinite (sym w) ∙ sym c.all_finite.ensures ∙ c.if-not-all_finite.false in
+    let f : all_finite (projection_at a.d a.bases.now a.v.now c.loop-b.b) ≡ true = ap all_finite (sym w) ∙ sym c.all_finite.ensures ∙ c.if-not-all_finite.false in
     let few : c.loop-b.b < length c.loop-b.slots = omega (arith, c.loop-b.invariant.3, c.loop-b-test, c.requires.n-high) in (
       omega (arith, c.loop-b-test),
       next-part c.loop-b.b (a.d * a.d) c.loop-b.p c.loop-b.invariant.1,
       c.project.auto.work ∙ c.loop-b.invariant.2,
       simp length-set c.loop-b.invariant.3,
       finite-more a.d a.bases.now a.v.now c.loop-b.b c.loop-b.invariant.4 f,
-      slot-more (faceSlot a.d a.bases.now a.v.now) c.loop-b.slots c.loop-b.b _ few c.loop-b.invariant.5 (c.slot.ensures.0 ∙ ap slot_of w),
+      slot-more (face_slot a.d a.bases.now a.v.now) c.loop-b.slots c.loop-b.b _ few c.loop-b.invariant.5 (c.slot.ensures.0 ∙ ap slot_of w),
     )
 
 pub shape_of-work : goal.shape_of-work
@@ -103,5 +103,5 @@ pub returns : goal.returns
 returns c =
     let a = c.args in
     let e : c.loop-b.b ≡ a.n = omega (arith, c.loop-b.invariant.0, c.loop-b-test) in
-    slots-found a.d a.n a.bases.now a.v.now c.loop-b.slots (ap (λ (k : ℕ). projectionsFinite a.d a.bases.now a.v.now k) (sym e) ∙ c.loop-b.invariant.4)
+    slots-found a.d a.n a.bases.now a.v.now c.loop-b.slots (ap (λ (k : ℕ). projections_finite a.d a.bases.now a.v.now k) (sym e) ∙ c.loop-b.invariant.4)
     (λ j l. c.loop-b.invariant.5 j (subst (λ (k : ℕ). j < k) (sym e) l))

@@ -1,8 +1,8 @@
 -- `laws` meets its contract: each law is a theorem of this crate's proofs. Assumes nothing.
 use Rattle.bitmaps.proofs.Digits.{has-union, has-shared, has-exclusive, has-without}
 use Rattle.bitmaps.proofs.Size.{size-union}
-use Rattle.bitmaps.proofs.Rising.{has-inserted, has_kept}
-use Rattle.bitmaps.proofs.Ids.{ids-once, ids-rising, ids-size, walk_start, walk-on, walk_end, next-first}
+use Rattle.bitmaps.proofs.Rising.{has-inserted, has-kept}
+use Rattle.bitmaps.proofs.Ids.{ids-once, ids-rising, ids-size, walk-start, walk-on, walk-end, next-first}
 use Rattle.bitmaps.proofs.Members.{has-empty, holds-union, holds-shared, holds-exclusive, holds-without, holds-inserted, holds-empty, same-words}
 use Rattle.bitmaps.proofs.laws.Goals as goal
 
@@ -13,7 +13,7 @@ returns c = record {
   has-exclusive = has-exclusive;
   has-without = has-without;
   has-inserted = has-inserted;
-  has_kept = has_kept;
+  has-kept = has-kept;
   has-empty = has-empty;
   holds-union = holds-union;
   holds-shared = holds-shared;
@@ -26,8 +26,8 @@ returns c = record {
   ids-once = ids-once;
   ids-rising = ids-rising;
   ids-size = ids-size;
-  walk_start = walk_start;
+  walk-start = walk-start;
   walk-on = walk-on;
-  walk_end = walk_end;
+  walk-end = walk-end;
   next-first = next-first;
 }

@@ -2,24 +2,24 @@
 use mathlib.Core.Path.{◌≡◌, sym, ◌∙◌}
 use mathlib.Core.Bool.{true, false}
 use borrow.Author.Tests.{eq-eqb, ne_eqb}
-use Rattle.paper.specs.Geometry.{capOk}
-use Rattle.bitmaps.specs.Answers.{setFault}
+use Rattle.paper.specs.Geometry.{cap_ok}
+use Rattle.bitmaps.specs.Answers.{set_fault}
 use Rattle.bitmaps.proofs.set_fault.Goals as goal
 
 pub returns-then-not-capacity_ok : goal.returns-then-not-capacity_ok
-unfolding setFault
+unfolding set_fault
 returns-then-not-capacity_ok c =
-    let bad : capOk c.args.cap ≡ false = sym c.capacity_ok.ensures ∙ c.if-not-capacity_ok.true in
+    let bad : cap_ok c.args.cap ≡ false = sym c.capacity_ok.ensures ∙ c.if-not-capacity_ok.true in
     rw bad
 
 pub returns-then-words-cap : goal.returns-then-words-cap
-unfolding setFault
+unfolding set_fault
 returns-then-words-cap c =
-    let good : capOk c.args.cap ≡ true = sym c.capacity_ok.ensures ∙ c.if-not-capacity_ok.false in
+    let good : cap_ok c.args.cap ≡ true = sym c.capacity_ok.ensures ∙ c.if-not-capacity_ok.false in
     rw (good, ne_eqb _ _ c.if-words-cap.true)
 
 pub returns : goal.returns
-unfolding setFault
+unfolding set_fault
 returns c =
-    let good : capOk c.args.cap ≡ true = sym c.capacity_ok.ensures ∙ c.if-not-capacity_ok.false in
+    let good : cap_ok c.args.cap ≡ true = sym c.capacity_ok.ensures ∙ c.if-not-capacity_ok.false in
     rw (good, eq-eqb _ _ c.if-words-cap.false)

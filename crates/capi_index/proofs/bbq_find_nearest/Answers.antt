@@ -2,7 +2,7 @@
 use mathlib.Core.Path.{sym, ◌∙◌}
 use borrow.Author.Tests.{not-true, not-false}
 use Rattle.paper.specs.Geometry.{geo}
-use Rattle.index_memory.specs.Memory.{ixOf}
+use Rattle.index_memory.specs.Memory.{ix_of}
 use Rattle.vector_store.specs.Search.{works}
 use Rattle.capi_sets.specs.Lists.{outs}
 use Rattle.capi_sets.proofs.Lists.{room}
@@ -16,7 +16,7 @@ pub returns-then-not-geometry_ok : goal.returns-then-not-geometry_ok
 returns-then-not-geometry_ok c =
     let a = c.args in
     let g = geo a.d a.n a.cap a.mode in
-    let ix = ixOf a.faces.now a.marks.now a.vectors.now in
+    let ix = ix_of a.faces.now a.marks.now a.vectors.now in
     let m = works a.work.now a.layers.now a.set.now in
     let o = outs a.ids.now a.scores.now a.told.now in
     search-geometry g a.bases.now ix a.target.now a.k a.search_k a.spill m o (sym c.geometry_ok.ensures ∙ c.if-not-geometry_ok.true)
@@ -28,7 +28,7 @@ pub returns-then-not-room_ok : goal.returns-then-not-room_ok
 returns-then-not-room_ok c =
     let a = c.args in
     let g = geo a.d a.n a.cap a.mode in
-    let ix = ixOf a.faces.now a.marks.now a.vectors.now in
+    let ix = ix_of a.faces.now a.marks.now a.vectors.now in
     let m = works a.work.now a.layers.now a.set.now in
     let o = outs a.ids.now a.scores.now a.told.now in
     search-room g a.bases.now ix a.target.now a.k a.search_k a.spill m o (sym c.geometry_ok.ensures ∙ c.if-not-geometry_ok.false) (sym c.room_ok.ensures ∙ c.if-not-room_ok.true)
@@ -40,7 +40,7 @@ pub put_nearest-requires : goal.put_nearest-requires
 put_nearest-requires c =
     let a = c.args in
     let g = geo a.d a.n a.cap a.mode in
-    let ix = ixOf a.faces.now a.marks.now a.vectors.now in
+    let ix = ix_of a.faces.now a.marks.now a.vectors.now in
     let m = works a.work.now a.layers.now a.set.now in
     let r = room _ _ _ _ _ (sym c.room_ok.ensures ∙ c.if-not-room_ok.false) in
     (search-fits g a.bases.now ix a.target.now a.k a.search_k a.spill m _ _ _ c.find_nearest-nearest.ensures r.ids r.scores, r.told)
@@ -67,7 +67,7 @@ pub returns : goal.returns
 returns c =
     let a = c.args in
     let g = geo a.d a.n a.cap a.mode in
-    let ix = ixOf a.faces.now a.marks.now a.vectors.now in
+    let ix = ix_of a.faces.now a.marks.now a.vectors.now in
     let m = works a.work.now a.layers.now a.set.now in
     let o = outs a.ids.now a.scores.now a.told.now in
     search-into g a.bases.now ix a.target.now a.k a.search_k a.spill m o _ _ (sym c.geometry_ok.ensures ∙ c.if-not-geometry_ok.false) (sym c.room_ok.ensures ∙ c.if-not-room_ok.false)

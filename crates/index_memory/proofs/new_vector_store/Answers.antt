@@ -1,7 +1,7 @@
 -- `index_memory::new_vector_store` meets its contract. Assumes nothing.
 use mathlib.Core.Path.{◌∙◌, sym}
 use Rattle.paper.specs.Geometry.{geo}
-use Rattle.index_memory.specs.Memory.{ixOf}
+use Rattle.index_memory.specs.Memory.{ix_of}
 use Rattle.index_memory.proofs.Lengths.{own-none, empty-is, empty-refused, empty-done}
 use Rattle.index_memory.proofs.new_vector_store.Goals as goal
 
@@ -12,5 +12,5 @@ pub returns : goal.returns
 returns c =
     let a = c.args in
     let g = geo a.d a.n a.cap a.mode in
-    empty-done g (ixOf a.faces.now a.marks.now a.vectors.now) _ _ c.own_refusal-r.ensures c.if-r-ne0.false
+    empty-done g (ix_of a.faces.now a.marks.now a.vectors.now) _ _ c.own_refusal-r.ensures c.if-r-ne0.false
     (rw (c.clear.ensures, c.clear-2.ensures, c.clear_bytes.ensures) (empty-is g _ _ _ (own-none a.d a.n a.cap a.mode _ _ _ (sym c.own_refusal-r.ensures ∙ c.if-r-ne0.false))))

@@ -9,7 +9,7 @@ use lib.Count.{ones}
 use lib.ListN.{length, drop, get_or}
 use lib.Seq.{drop-length}
 use Rattle.bitmaps.specs.Words.{size, shared}
-use Rattle.bitmaps.proofs.Zip.{byWord-length}
+use Rattle.bitmaps.proofs.Zip.{by_word-length}
 use Rattle.bitmaps.proofs.Size.{ones_none}
 use Rattle.merging.proofs.Loops.{share-drop}
 use Rattle.merging.proofs.share_nothing.Goals as goal
@@ -43,6 +43,6 @@ unfolding size
 returns c =
     let a = c.args.a.now in
     let b = c.args.b.now in
-    let past : c.loop-i.i ≡ length (shared a b) = omega (arith, c.loop-i.invariant.0, c.loop-i-test, byWord-length bit_and a b) in
+    let past : c.loop-i.i ≡ length (shared a b) = omega (arith, c.loop-i.invariant.0, c.loop-i-test, by_word-length bit_and a b) in
     let none : size (drop c.loop-i.i (shared a b)) ≡ 0 = rw (past, drop-length) in
     sym (eq-eqb (size (shared a b)) 0 (c.loop-i.invariant.1 ∙ none))

@@ -8,7 +8,7 @@ use lib.Count.{ones}
 use lib.ListN.{length, drop, get_or}
 use lib.Seq.{drop-length}
 use Rattle.bitmaps.specs.Words.{size, shared}
-use Rattle.bitmaps.proofs.Zip.{byWord-length}
+use Rattle.bitmaps.proofs.Zip.{by_word-length}
 use Rattle.bitmaps.proofs.Size.{ones_none}
 use Rattle.merging.proofs.Loops.{share-drop}
 use Rattle.merging.proofs.share_nothing.Given as goal

@@ -10,8 +10,8 @@ use borrow.Author.Tests.{le-leb, lt-leb, eq-eqb, ne_eqb}
 use lib.ListN.{length, replicate}
 use lib.Ieee.{Float}
 use Rattle.vector.specs.Fold.{zero32}
-use Rattle.vector.specs.Finite.{allFinite}
-use Rattle.ortho.specs.Ortho.{written, orthonormalized, roundsOf, told}
+use Rattle.vector.specs.Finite.{all_finite}
+use Rattle.ortho.specs.Ortho.{written, orthonormalized, rounds_of, told}
 use Rattle.ortho.proofs.orthonormalize.Goals as goal
 
 module _ (d r : ℕ) (xs ys : List Float) where
@@ -40,21 +40,21 @@ module _ (d r : ℕ) (xs ys : List Float) where
           second h = simp (le-leb 1 d A, le-leb d 1024 B, le-leb r 8 C, eq-eqb (length xs) (d * d) X, ne_eqb (length ys) (d * d) h)
 
           module _ (Y : length ys ≡ d * d) where
-            fifth : allFinite xs ≡ false → written 5 ys ≡ orthonormalized d r xs ys
+            fifth : all_finite xs ≡ false → written 5 ys ≡ orthonormalized d r xs ys
             unfolding orthonormalized
             fifth h = simp (le-leb 1 d A, le-leb d 1024 B, le-leb r 8 C, eq-eqb (length xs) (d * d) X, eq-eqb (length ys) (d * d) Y, h)
 
-            module _ (F : allFinite xs ≡ true) where
-              sixth : roundsOf d r xs ≡ none → written 6 (replicate (d * d) zero32) ≡ orthonormalized d r xs ys
+            module _ (F : all_finite xs ≡ true) where
+              sixth : rounds_of d r xs ≡ none → written 6 (replicate (d * d) zero32) ≡ orthonormalized d r xs ys
               unfolding orthonormalized
               sixth h = simp (le-leb 1 d A, le-leb d 1024 B, le-leb r 8 C, eq-eqb (length xs) (d * d) X, eq-eqb (length ys) (d * d) Y, F, h)
 
-              done : (zs : List Float) → roundsOf d r xs ≡ some zs → written 0 zs ≡ orthonormalized d r xs ys
+              done : (zs : List Float) → rounds_of d r xs ≡ some zs → written 0 zs ≡ orthonormalized d r xs ys
               unfolding orthonormalized
               done zs h = simp (le-leb 1 d A, le-leb d 1024 B, le-leb r 8 C, eq-eqb (length xs) (d * d) X, eq-eqb (length ys) (d * d) Y, F, h)
 
 -- the rounds' own answer, from the basis that was copied
-rounds-said : (d r : ℕ) (xs copied zs : List Float) (b t : Bool) → copied ≡ xs → roundsOf d r copied ≡ told b zs → b ≡ t → roundsOf d r xs ≡ told t zs
+rounds-said : (d r : ℕ) (xs copied zs : List Float) (b t : Bool) → copied ≡ xs → rounds_of d r copied ≡ told b zs → b ≡ t → rounds_of d r xs ≡ told t zs
 rounds-said d r xs copied zs b t e h q = rw (← e, h, q)
 
 pub returns-then-d-lt1 : goal.returns-then-d-lt1

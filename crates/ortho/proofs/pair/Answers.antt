@@ -3,11 +3,11 @@ use mathlib.Core.Path.{◌≡◌, ◌∙◌}
 use mathlib.Core.List.{List}
 use Prim.Native.Nat.{ℕ}
 use lib.Ieee.{Float}
-use Rattle.vector.specs.Fold.{dotOf}
-use Rattle.ortho.specs.Ortho.{row, reduced, normRow, pair_of}
+use Rattle.vector.specs.Fold.{dot_of}
+use Rattle.ortho.specs.Ortho.{row, reduced, norm_row, pair_of}
 use Rattle.ortho.proofs.pair.Goals as goal
 
-say : (a b d : ℕ) (xs ys : List Float) (t : Float) → t ≡ dotOf (row a d xs) (row b d xs) → ys ≡ reduced a b d t xs → pair_of a b d xs ≡ normRow b d ys
+say : (a b d : ℕ) (xs ys : List Float) (t : Float) → t ≡ dot_of (row a d xs) (row b d xs) → ys ≡ reduced a b d t xs → pair_of a b d xs ≡ norm_row b d ys
 unfolding pair_of
 say a b d xs ys t p q = rw (q, p)
 

@@ -3,13 +3,13 @@ use native.Mathlib.Nat.{mul-le-mul}
 use Prim.Native.Nat.{◌/◌, ◌≤◌}
 use mathlib.Core.Path.{sym, ◌∙◌}
 use borrow.Author.Tests.{not-true, not-false}
-use Rattle.paper.specs.Geometry.{lengthsOf}
+use Rattle.paper.specs.Geometry.{lengths_of}
 use Rattle.paper.proofs.Geometry.{geo-facts}
 use borrow.Author.Rules.{rules}
 use Rattle.paper.proofs.lengths_for.Goals as goal
 
 pub returns-then-not-geometry_ok : goal.returns-then-not-geometry_ok
-unfolding lengthsOf
+unfolding lengths_of
 returns-then-not-geometry_ok c = simp (sym c.geometry_ok.ensures ∙ not-true _ c.if-not-geometry_ok.true-raw)
 
 pub bases_len-requires : goal.bases_len-requires
@@ -34,6 +34,6 @@ overflow_mul-result c =
     omega (arith, mul-le-mul g.n-high w)
 
 pub returns : goal.returns
-unfolding lengthsOf
+unfolding lengths_of
 returns c =
     simp (sym c.geometry_ok.ensures ∙ not-false _ c.if-not-geometry_ok.false-raw, c.bases_len.ensures, c.face_words.ensures, c.vector_bytes.ensures)

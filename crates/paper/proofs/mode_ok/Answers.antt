@@ -1,7 +1,7 @@
 use mathlib.Core.Path.{refl}
-use Rattle.paper.specs.Geometry.{modeOk}
+use Rattle.paper.specs.Geometry.{mode_ok}
 use Rattle.paper.proofs.mode_ok.Goals as goal
 
 pub returns : goal.returns
-unfolding modeOk
+unfolding mode_ok
 returns c = refl

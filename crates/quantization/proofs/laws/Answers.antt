@@ -2,7 +2,7 @@
 use Rattle.quantization.proofs.Halves.{lowered-nearest, nearest-only, lowered-nan, lowered-widened}
 use Rattle.quantization.proofs.Bytes.{word-put}
 use Rattle.quantization.proofs.Stored.{comp-back, components-back, restored-four, restored-two, restored-again}
-use Rattle.quantization.proofs.Copies.{read_back}
+use Rattle.quantization.proofs.Copies.{read-back}
 use Rattle.quantization.proofs.laws.Goals as goal
 
 pub returns : goal.returns
@@ -17,5 +17,5 @@ returns c = record {
   restored-four = restored-four;
   restored-two = restored-two;
   restored-again = restored-again;
-  read_back = read_back;
+  read-back = read-back;
 }

@@ -2,7 +2,7 @@ use mathlib.Core.Path.{◌≡◌, refl, sym, ap, ◌∙◌}
 use Prim.Native.Nat.{ℕ, ◌+◌, ◌*◌, ◌/◌, ◌<◌, ◌≤◌}
 use native.Mathlib.Omega.{arith}
 use lib.ListN.{length}
-use Rattle.paper.specs.Geometry.{compSize}
+use Rattle.paper.specs.Geometry.{comp_size}
 use Rattle.paper.proofs.Geometry.{comp-low}
 use Rattle.quantization.proofs.Copies.{fit, unfit, room, marshal-start, marshal-step, marshal-end, marshal-unknown, marshal-short, marshal-done}
 use Rattle.quantization.proofs.marshal.Goals as goal
@@ -16,20 +16,20 @@ nonzero_div-array c = omega (arith, c.component_size-size.ensures, comp-low c.ar
 
 pub returns-then-array-size : goal.returns-then-array-size
 returns-then-array-size c =
-    let h : length c.args.array.now / compSize c.args.mode < length c.args.v.now = rw c.component_size-size.ensures at c.if-array-size.true in
+    let h : length c.args.array.now / comp_size c.args.mode < length c.args.v.now = rw c.component_size-size.ensures at c.if-array-size.true in
     marshal-short c.args.mode c.args.v.now c.args.array.now (sym c.mode_ok.ensures ∙ c.if-not-mode_ok.false) (unfit c.args.mode (length c.args.v.now) (length c.args.array.now) h)
 
 pub loop-i-init : goal.loop-i-init
 loop-i-init c = (omega arith, refl, marshal-start c.args.mode c.args.v.now c.args.array.now)
 
 -- in the loop: the components fit, and so does this one
-fits_all : (c : In-loop-i) → length c.args.v.now ≤ length c.args.array.now / compSize c.args.mode
+fits_all : (c : In-loop-i) → length c.args.v.now ≤ length c.args.array.now / comp_size c.args.mode
 fits_all c = rw c.component_size-size.ensures at c.if-array-size.false
 
-fits-here : (c : In-loop-i) → c.loop-i.i * compSize c.args.mode + compSize c.args.mode ≤ length c.args.array.now
+fits-here : (c : In-loop-i) → c.loop-i.i * comp_size c.args.mode + comp_size c.args.mode ≤ length c.args.array.now
 fits-here c = room c.args.mode c.loop-i.i (length c.args.v.now) (length c.args.array.now) c.loop-i-test.true (fits_all c)
 
-place : (c : In-loop-i) → c.loop-i.i * c.component_size-size.result ≡ c.loop-i.i * compSize c.args.mode
+place : (c : In-loop-i) → c.loop-i.i * c.component_size-size.result ≡ c.loop-i.i * comp_size c.args.mode
 place c = ap (λ (x : ℕ). c.loop-i.i * x) c.component_size-size.ensures
 
 pub overflow_mul-i : goal.overflow_mul-i
@@ -52,6 +52,6 @@ shape_of-array c = c.loop-i.invariant.1
 
 pub returns : goal.returns
 returns c =
-    let h : length c.args.v.now ≤ length c.args.array.now / compSize c.args.mode = rw c.component_size-size.ensures at c.if-array-size.false in
+    let h : length c.args.v.now ≤ length c.args.array.now / comp_size c.args.mode = rw c.component_size-size.ensures at c.if-array-size.false in
     marshal-done c.args.mode c.args.v.now c.args.array.now c.loop-i.array (sym c.mode_ok.ensures ∙ c.if-not-mode_ok.false) (fit c.args.mode (length c.args.v.now) (length c.args.array.now) h)
-    (sym (marshal-end c.args.mode c.args.v.now c.loop-i.array c.loop-i.i (c.loop-i.i * compSize c.args.mode) (omega arith)) ∙ c.loop-i.invariant.2)
+    (sym (marshal-end c.args.mode c.args.v.now c.loop-i.array c.loop-i.i (c.loop-i.i * comp_size c.args.mode) (omega arith)) ∙ c.loop-i.invariant.2)

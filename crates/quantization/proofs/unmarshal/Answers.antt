@@ -3,9 +3,9 @@ use Prim.Native.Nat.{ℕ, ◌+◌, ◌*◌, ◌/◌, ◌%◌, ◌<◌, ◌≤◌
 use native.Mathlib.Omega.{arith}
 use lib.ListN.{length, length-set}
 use lib.Seq.{sets}
-use Rattle.paper.specs.Geometry.{compSize}
+use Rattle.paper.specs.Geometry.{comp_size}
 use Rattle.paper.proofs.Geometry.{comp-low}
-use Rattle.quantization.specs.Stored.{componentAt, components}
+use Rattle.quantization.specs.Stored.{component_at, components}
 use Rattle.quantization.proofs.Copies.{room, unmarshal-start, unmarshal-step, unmarshal-end, unmarshal-unknown, unmarshal-uneven, unmarshal-short, unmarshal-done}
 use Rattle.quantization.proofs.unmarshal.Goals as goal
 use Rattle.quantization.proofs.unmarshal.Goals.{In-loop-i}
@@ -18,7 +18,7 @@ nonzero_rem-array c = omega (arith, c.component_size-size.ensures, comp-low c.ar
 
 pub returns-then-array-size-ne0 : goal.returns-then-array-size-ne0
 returns-then-array-size-ne0 c =
-    let h : length c.args.array.now % compSize c.args.mode ≡ 0 → ⊥ = rw c.component_size-size.ensures at c.if-array-size-ne0.true in
+    let h : length c.args.array.now % comp_size c.args.mode ≡ 0 → ⊥ = rw c.component_size-size.ensures at c.if-array-size-ne0.true in
     unmarshal-uneven c.args.mode c.args.array.now c.args.out.now (sym c.mode_ok.ensures ∙ c.if-not-mode_ok.false) h
 
 pub nonzero_div-n : goal.nonzero_div-n
@@ -26,20 +26,20 @@ nonzero_div-n c = omega (arith, c.component_size-size.ensures, comp-low c.args.m
 
 pub returns-then-out-n : goal.returns-then-out-n
 returns-then-out-n c =
-    let e : length c.args.array.now % compSize c.args.mode ≡ 0 = rw c.component_size-size.ensures at c.if-array-size-ne0.false in
-    let h : length c.args.out.now < length c.args.array.now / compSize c.args.mode = rw c.component_size-size.ensures at c.if-out-n.true in
+    let e : length c.args.array.now % comp_size c.args.mode ≡ 0 = rw c.component_size-size.ensures at c.if-array-size-ne0.false in
+    let h : length c.args.out.now < length c.args.array.now / comp_size c.args.mode = rw c.component_size-size.ensures at c.if-out-n.true in
     unmarshal-short c.args.mode c.args.array.now c.args.out.now (sym c.mode_ok.ensures ∙ c.if-not-mode_ok.false) e h
 
 pub loop-i-init : goal.loop-i-init
 loop-i-init c = (omega arith, refl, unmarshal-start c.args.mode c.args.array.now _ c.args.out.now)
 
 -- in the loop: this component is there
-there : (c : In-loop-i) → c.loop-i.i * compSize c.args.mode + compSize c.args.mode ≤ length c.args.array.now
+there : (c : In-loop-i) → c.loop-i.i * comp_size c.args.mode + comp_size c.args.mode ≤ length c.args.array.now
 there c =
-    let h : c.loop-i.i < length c.args.array.now / compSize c.args.mode = rw c.component_size-size.ensures at c.loop-i-test.true in
-    room c.args.mode c.loop-i.i (length c.args.array.now / compSize c.args.mode) (length c.args.array.now) h (omega arith)
+    let h : c.loop-i.i < length c.args.array.now / comp_size c.args.mode = rw c.component_size-size.ensures at c.loop-i-test.true in
+    room c.args.mode c.loop-i.i (length c.args.array.now / comp_size c.args.mode) (length c.args.array.now) h (omega arith)
 
-place : (c : In-loop-i) → c.loop-i.i * c.component_size-size.result ≡ c.loop-i.i * compSize c.args.mode
+place : (c : In-loop-i) → c.loop-i.i * c.component_size-size.result ≡ c.loop-i.i * comp_size c.args.mode
 place c = ap (λ (x : ℕ). c.loop-i.i * x) c.component_size-size.ensures
 
 pub overflow_mul-i : goal.overflow_mul-i
@@ -53,7 +53,7 @@ loop-i-preserved c = (
   omega arith,
   length-set c.loop-i.out c.loop-i.i c.component.result ∙ c.loop-i.invariant.1,
   unmarshal-step c.args.mode c.args.array.now _ c.loop-i.out c.loop-i.i c.component.result (omega arith)
-      (c.component.ensures ∙ ap (componentAt c.args.mode c.args.array.now) (place (goal.at.loop-i-preserved c).In-loop-i))
+      (c.component.ensures ∙ ap (component_at c.args.mode c.args.array.now) (place (goal.at.loop-i-preserved c).In-loop-i))
       ∙ c.loop-i.invariant.2,
 )
 
@@ -63,8 +63,8 @@ shape_of-out c = c.loop-i.invariant.1
 pub returns : goal.returns
 returns c =
     let z = c.component_size-size.ensures in
-    let e : length c.args.array.now % compSize c.args.mode ≡ 0 = rw z at c.if-array-size-ne0.false in
-    let h : length c.args.array.now / compSize c.args.mode ≤ length c.args.out.now = rw z at c.if-out-n.false in
+    let e : length c.args.array.now % comp_size c.args.mode ≡ 0 = rw z at c.if-array-size-ne0.false in
+    let h : length c.args.array.now / comp_size c.args.mode ≤ length c.args.out.now = rw z at c.if-out-n.false in
     let f : c.loop-i.out ≡ sets c.args.out.now 0 (components c.args.mode c.args.array.now 0 (length c.args.array.now / c.component_size-size.result)) =
-    sym (unmarshal-end c.args.mode c.args.array.now (length c.args.array.now / c.component_size-size.result) c.loop-i.out c.loop-i.i (c.loop-i.i * compSize c.args.mode) (omega arith)) ∙ c.loop-i.invariant.2 in
+    sym (unmarshal-end c.args.mode c.args.array.now (length c.args.array.now / c.component_size-size.result) c.loop-i.out c.loop-i.i (c.loop-i.i * comp_size c.args.mode) (omega arith)) ∙ c.loop-i.invariant.2 in
     unmarshal-done c.args.mode c.args.array.now c.args.out.now c.loop-i.out (sym c.mode_ok.ensures ∙ c.if-not-mode_ok.false) e h (rw z at f)

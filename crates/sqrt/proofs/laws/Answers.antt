@@ -2,7 +2,7 @@
 use Rattle.sqrt.proofs.Near.{sqrt-unique, nearer-above, nearer-below}
 use Rattle.sqrt.proofs.Function.{root-of, sqrt-is, root-finite}
 use Rattle.sqrt.proofs.Values.{value}
-use Rattle.sqrt.proofs.Order.{root-mono, below_root}
+use Rattle.sqrt.proofs.Order.{root-mono, below-root}
 use Rattle.sqrt.proofs.FloatRoot.{sign-negates, root-nearest, float-sized}
 use Rattle.sqrt.proofs.laws.Goals as goal
 
@@ -17,7 +17,7 @@ returns c = record {
   nearer-below = nearer-below;
   root-finite = root-finite;
   root-mono = root-mono;
-  below_root = below_root;
+  below-root = below-root;
   root-nearest = root-nearest;
   float-sized = float-sized;
 }

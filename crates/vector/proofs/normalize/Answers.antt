@@ -4,41 +4,41 @@ use mathlib.Core.Bool.{true, false}
 use mathlib.Core.List.{List}
 use lib.Ieee.{Float, eq}
 use Rattle.sqrt.specs.RootOf.{root}
-use Rattle.vector.specs.Fold.{dotOf, zero32}
-use Rattle.vector.specs.Finite.{is_finite, allFinite}
-use Rattle.vector.specs.Norm.{Normal, normal, normOf, normNumber, normalized, divided_by, allFiniteBy}
+use Rattle.vector.specs.Fold.{dot_of, zero32}
+use Rattle.vector.specs.Finite.{is_finite, all_finite}
+use Rattle.vector.specs.Norm.{Normal, normal, norm_of, norm_number, normalized, divided_by, all_finite_by}
 use Rattle.vector.proofs.normalize.Goals as goal
 
-norm-is : (xs : List Float) (d n : Float) → d ≡ dotOf xs xs → n ≡ root d → n ≡ normOf xs
-unfolding normOf
+norm-is : (xs : List Float) (d n : Float) → d ≡ dot_of xs xs → n ≡ root d → n ≡ norm_of xs
+unfolding norm_of
 norm-is xs d n p q = q ∙ ap root p
 
 -- what each way through the code has found, and what is promised then
 module _ (xs : List Float) where
   abbrev outcome : Normal
-  outcome = normal (normNumber xs) (normalized xs)
+  outcome = normal (norm_number xs) (normalized xs)
 
-  not_finite : allFinite xs ≡ false → normal 5 xs ≡ outcome
-  unfolding normNumber normalized
+  not_finite : all_finite xs ≡ false → normal 5 xs ≡ outcome
+  unfolding norm_number normalized
   not_finite h = simp h
 
-  module _ (h : allFinite xs ≡ true) (n : Float) (N : n ≡ normOf xs) where
+  module _ (h : all_finite xs ≡ true) (n : Float) (N : n ≡ norm_of xs) where
     norm-not-finite : is_finite n ≡ false → normal 6 xs ≡ outcome
-    unfolding normNumber normalized
+    unfolding norm_number normalized
     norm-not-finite g = simp (h, ← N, g)
 
     module _ (g : is_finite n ≡ true) where
       norm-zero : eq n zero32 ≡ true → normal 6 xs ≡ outcome
-      unfolding normNumber normalized
+      unfolding norm_number normalized
       norm-zero z = simp (h, ← N, g, z)
 
       module _ (z : eq n zero32 ≡ false) where
-        quotient-not-finite : allFiniteBy n xs ≡ false → normal 6 xs ≡ outcome
-        unfolding normNumber normalized
+        quotient-not-finite : all_finite_by n xs ≡ false → normal 6 xs ≡ outcome
+        unfolding norm_number normalized
         quotient-not-finite q = simp (h, ← N, g, z, q)
 
-        accepted : (ys : List Float) → allFiniteBy n xs ≡ true → ys ≡ divided_by n xs → normal 0 ys ≡ outcome
-        unfolding normNumber normalized
+        accepted : (ys : List Float) → all_finite_by n xs ≡ true → ys ≡ divided_by n xs → normal 0 ys ≡ outcome
+        unfolding norm_number normalized
         accepted ys q e = simp (h, ← N, g, z, q, e)
 
 pub returns-then-not-all_finite : goal.returns-then-not-all_finite

@@ -1,6 +1,6 @@
 -- `vector_store::find_nearest_internal` meets its contract. Assumes nothing.
 use lib.ListN.{length}
-use Rattle.candidates.specs.Gathering.{queryOf}
+use Rattle.candidates.specs.Gathering.{query_of}
 use Rattle.vector_store.proofs.Cases.{found-refused, found-done}
 use borrow.Author.Rules.{rules}
 use Rattle.vector_store.proofs.find_nearest_internal.Goals as goal
@@ -8,9 +8,9 @@ use Rattle.vector_store.proofs.find_nearest_internal.Goals as goal
 pub returns-then-gathered-ne0 : goal.returns-then-gathered-ne0
 returns-then-gathered-ne0 c =
     let a = c.args in
-    found-refused a.n a.mode a.k a.search_k (queryOf a.bases.now a.faces.now a.target.now (length a.set.now) a.picks) a.marks.now a.vectors.now c.gather-gathered.new.layers c.gather-gathered.result c.refuse.result c.gather-gathered.ensures c.if-gathered-ne0.true c.refuse.ensures
+    found-refused a.n a.mode a.k a.search_k (query_of a.bases.now a.faces.now a.target.now (length a.set.now) a.picks) a.marks.now a.vectors.now c.gather-gathered.new.layers c.gather-gathered.result c.refuse.result c.gather-gathered.ensures c.if-gathered-ne0.true c.refuse.ensures
 
 pub returns : goal.returns
 returns c =
     let a = c.args in
-    found-done a.n a.mode a.k a.search_k (queryOf a.bases.now a.faces.now a.target.now (length a.set.now) a.picks) a.marks.now a.vectors.now c.gather-gathered.new.layers c.gather-gathered.result c.rank_top.result c.gather-gathered.ensures c.if-gathered-ne0.false c.rank_top.ensures
+    found-done a.n a.mode a.k a.search_k (query_of a.bases.now a.faces.now a.target.now (length a.set.now) a.picks) a.marks.now a.vectors.now c.gather-gathered.new.layers c.gather-gathered.result c.rank_top.result c.gather-gathered.ensures c.if-gathered-ne0.false c.rank_top.ensures

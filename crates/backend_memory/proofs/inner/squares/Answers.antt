@@ -6,28 +6,28 @@ use Prim.Native.Nat.{ℕ, ◌+◌, ◌-◌, ◌*◌, ◌≤◌}
 use mathlib.Core.Path.{◌≡◌, sym, ◌∙◌, ap}
 use lib.ListN.{length, drop, get_or}
 use lib.Ieee.{Float, nan}
-use Rattle.paper.specs.Geometry.{compSize}
-use Rattle.vector.specs.Fold.{fold2, distStep, squaresOf}
+use Rattle.paper.specs.Geometry.{comp_size}
+use Rattle.vector.specs.Fold.{fold2, dist_step, squares_of}
 use Rattle.quantization.specs.Stored.{components}
 use Rattle.backend_memory.proofs.Squares.{within, next_place, squares-start, squares-step, squares-end}
 use Rattle.backend_memory.proofs.inner.squares.Goals as goal
 
 pub loop-i-init : goal.loop-i-init
-loop-i-init c = (search rules, omega (arith, zero-mul (compSize c.args.mode)), squares-start c.args.mode c.args.at c.args.target.now c.args.vectors.now)
+loop-i-init c = (search rules, omega (arith, zero-mul (comp_size c.args.mode)), squares-start c.args.mode c.args.at c.args.target.now c.args.vectors.now)
 
 pub component-requires : goal.component-requires
-component-requires c = within (length c.args.target.now) c.loop-i.i (compSize c.args.mode) c.args.at c.loop-i.p (length c.args.vectors.now) c.loop-i-test.true c.loop-i.invariant.1 c.requires
+component-requires c = within (length c.args.target.now) c.loop-i.i (comp_size c.args.mode) c.args.at c.loop-i.p (length c.args.vectors.now) c.loop-i-test.true c.loop-i.invariant.1 c.requires
 
 pub overflow_add-p : goal.overflow_add-p
-overflow_add-p c = omega (arith, within (length c.args.target.now) c.loop-i.i (compSize c.args.mode) c.args.at c.loop-i.p (length c.args.vectors.now) c.loop-i-test.true c.loop-i.invariant.1 c.requires, c.component_size-size.ensures)
+overflow_add-p c = omega (arith, within (length c.args.target.now) c.loop-i.i (comp_size c.args.mode) c.args.at c.loop-i.p (length c.args.vectors.now) c.loop-i-test.true c.loop-i.invariant.1 c.requires, c.component_size-size.ensures)
 
 pub loop-i-preserved : goal.loop-i-preserved
 loop-i-preserved c =
     let a = c.args in
-    let e : c.loop-i.p + c.component_size-size.result ≡ c.loop-i.p + compSize a.mode = ap (λ (n : ℕ). c.loop-i.p + n) c.component_size-size.ensures in (
+    let e : c.loop-i.p + c.component_size-size.result ≡ c.loop-i.p + comp_size a.mode = ap (λ (n : ℕ). c.loop-i.p + n) c.component_size-size.ensures in (
       search rules,
-      e ∙ next_place c.loop-i.i (compSize a.mode) a.at c.loop-i.p c.loop-i.invariant.1,
-      sym (squares-step a.mode a.at a.target.now a.vectors.now c.loop-i.sum c.step-sum.result c.loop-i.i c.loop-i.p c.loop-i-test.true c.loop-i.invariant.1 (c.step-sum.ensures ∙ ap (λ (z : Float). distStep c.loop-i.sum (get_or a.target.now c.loop-i.i nan) z) c.component.ensures)) ∙ c.loop-i.invariant.2,
+      e ∙ next_place c.loop-i.i (comp_size a.mode) a.at c.loop-i.p c.loop-i.invariant.1,
+      sym (squares-step a.mode a.at a.target.now a.vectors.now c.loop-i.sum c.step-sum.result c.loop-i.i c.loop-i.p c.loop-i-test.true c.loop-i.invariant.1 (c.step-sum.ensures ∙ ap (λ (z : Float). dist_step c.loop-i.sum (get_or a.target.now c.loop-i.i nan) z) c.component.ensures)) ∙ c.loop-i.invariant.2,
     )
 
 pub returns : goal.returns

@@ -9,8 +9,8 @@ use lib.ListN.{length}
 use Rattle.index_memory.proofs.Places.{part_end, part-long}
 use Rattle.counting_bitmap.specs.Layers.{empty}
 use Rattle.basis.proofs.Bases.{finite-none, finite-more, finite-no}
-use Rattle.candidates.specs.Gathering.{Query, queryOf, layersOf, droppedOf}
-use Rattle.candidates.proofs.Bases.{times-by, was-finite, was-not, one_answer, one-layers, one-dropped, merged-more, dropped-more, gather-stopped, gather-ended}
+use Rattle.candidates.specs.Gathering.{Query, query_of, layers_of, dropped_of}
+use Rattle.candidates.proofs.Bases.{times-by, was-finite, was-not, one-answer, one-layers, one-dropped, merged-more, dropped-more, gather-stopped, gather-ended}
 use Rattle.candidates.proofs.inner.gather.Goals as goal
 use Rattle.candidates.proofs.inner.gather.Goals.{In-loop-b}
 
@@ -24,7 +24,7 @@ pub overflow_mul-block-2 : goal.overflow_mul-block-2
 overflow_mul-block-2 c = omega (arith, mul-le-mul (mul-le-mul (le_refl 2) c.requires.d-high) c.requires.w-high)
 
 pub loop-b-init : goal.loop-b-init
-unfolding layersOf droppedOf
+unfolding layers_of dropped_of
 loop-b-init c =
     let a = c.args in
     let z : a.n - 0 ≡ a.n = omega arith in
@@ -77,8 +77,8 @@ returns-then-one-ne0 c =
     let a = c.args in
     let l = c.loop-b in
     let g = c.gather_basis-one in
-    let q : Query = queryOf a.bases.now a.faces.now a.target.now (length a.set.now) a.picks in
-    let ans = one_answer q a.n l.b l.p l.f (length l.set) l.layers g.new.layers g.result l.invariant.1 l.invariant.2 l.invariant.5 g.ensures in
+    let q : Query = query_of a.bases.now a.faces.now a.target.now (length a.set.now) a.picks in
+    let ans = one-answer q a.n l.b l.p l.f (length l.set) l.layers g.new.layers g.result l.invariant.1 l.invariant.2 l.invariant.5 g.ensures in
     gather-stopped q a.n g.new.layers (finite-no _ _ _ a.n l.b c.loop-b-test.true (was-not _ _ ans c.if-one-ne0.true))
 
 pub overflow_add-total : goal.overflow_add-total
@@ -95,10 +95,10 @@ loop-b-preserved c =
     let a = c.args in
     let l = c.loop-b in
     let g = c.gather_basis-one in
-    let q : Query = queryOf a.bases.now a.faces.now a.target.now (length a.set.now) a.picks in
+    let q : Query = query_of a.bases.now a.faces.now a.target.now (length a.set.now) a.picks in
     let ls' = g.new.layers in
     let ok = c.if-one-ne0.false in
-    let ans = one_answer q a.n l.b l.p l.f (length l.set) l.layers ls' g.result l.invariant.1 l.invariant.2 l.invariant.5 g.ensures in
+    let ans = one-answer q a.n l.b l.p l.f (length l.set) l.layers ls' g.result l.invariant.1 l.invariant.2 l.invariant.5 g.ensures in
     let lay = one-layers q a.n l.b l.p l.f (length l.set) l.layers ls' g.result l.invariant.1 l.invariant.2 l.invariant.5 g.ensures ok in
     let drp = one-dropped q a.n l.b l.p l.f (length l.set) l.layers ls' g.result l.invariant.1 l.invariant.2 l.invariant.5 g.ensures ok in
     let fin = finite-more _ _ _ l.b l.invariant.7 (was-finite _ _ ans ok) in
@@ -120,4 +120,4 @@ pub returns : goal.returns
 returns c =
     let a = c.args in
     let l = c.loop-b in
-    gather-ended (queryOf a.bases.now a.faces.now a.target.now (length a.set.now) a.picks) a.n l.b l.layers l.total c.loop-b-test.false l.invariant.0 l.invariant.7 l.invariant.8 l.invariant.9
+    gather-ended (query_of a.bases.now a.faces.now a.target.now (length a.set.now) a.picks) a.n l.b l.layers l.total c.loop-b-test.false l.invariant.0 l.invariant.7 l.invariant.8 l.invariant.9

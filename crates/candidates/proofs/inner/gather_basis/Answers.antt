@@ -5,7 +5,7 @@ use mathlib.Core.Path.{◌≡◌, refl, ◌∙◌, ap, sym, subst}
 use lib.ListN.{length}
 use Rattle.bitmaps.specs.Words.{size}
 use Rattle.counting_bitmap.specs.Layers.{merged, fallen}
-use Rattle.vector.specs.Finite.{allFinite}
+use Rattle.vector.specs.Finite.{all_finite}
 use Rattle.bitmaps.proofs.Digits.{Words}
 use Rattle.candidates.proofs.Words.{words-fallen, words-of-union}
 use Rattle.candidates.proofs.Bases.{times-by, union-is, few-of, basis-bad, basis-good}
@@ -15,7 +15,7 @@ pub returns-then-not-all_finite : goal.returns-then-not-all_finite
 returns-then-not-all_finite c =
     let a = c.args in
     basis-bad a.n (length a.set.now) a.picks a.basis.now a.faces.now a.target.now a.layers.now _
-    (ap allFinite (sym c.project.ensures) ∙ sym c.all_finite.ensures ∙ c.if-not-all_finite.true)
+    (ap all_finite (sym c.project.ensures) ∙ sym c.all_finite.ensures ∙ c.if-not-all_finite.true)
 
 pub spill_into-requires : goal.spill_into-requires
 spill_into-requires c =
@@ -40,7 +40,7 @@ returns c =
     let w = length a.set.now in
     let u = c.spill_into.new.set in
     let same : length c.spill_into.new.set ≡ w = c.spill_into.auto.set ∙ c.clear.auto.a in
-    let fin = ap allFinite (sym c.project.ensures) ∙ sym c.all_finite.ensures ∙ c.if-not-all_finite.false in
+    let fin = ap all_finite (sym c.project.ensures) ∙ sym c.all_finite.ensures ∙ c.if-not-all_finite.false in
     let un = union-is a.picks w a.faces.now _ c.project.new.work c.clear.new.a u c.clear.ensures c.project.ensures c.spill_into.ensures in
     let words = words-fallen a.n (length u) a.layers.now u (rw same c.requires.layers) refl (subst Words (sym un) (words-of-union a.picks w a.faces.now _ (λ i. (c.type_inv.faces i).fits))) in
     let few = few-of c.count-dropped.result c.merge.new.cur (subst Words (sym c.merge.ensures.1) words) (omega (arith, c.requires.w-high, c.merge.auto.cur, same)) c.count-dropped.ensures in

@@ -6,7 +6,7 @@ use mathlib.Core.Path.{◌≡◌, refl, ◌∙◌, ap, sym}
 use mathlib.Core.Bool.{true}
 use lib.ListN.{length, take, drop}
 use Rattle.index_memory.proofs.Places.{part_end, part-long}
-use Rattle.vector.specs.Finite.{allFinite}
+use Rattle.vector.specs.Finite.{all_finite}
 use Rattle.faces.proofs.Slots.{finite-picked}
 use Rattle.candidates.proofs.Spills.{spill-turn, spill-end}
 use Rattle.candidates.proofs.inner.spill_into.Goals as goal
@@ -54,7 +54,7 @@ loop-i-preserved c =
       omega (arith, c.loop-i-test.true),
       omega (arith, c.pick-slot.auto.work, l.invariant.1),
       omega (arith, c.or.auto.a, l.invariant.2),
-      ap allFinite c.pick-slot.ensures.2 ∙ finite-picked l.work l.invariant.3,
+      ap all_finite c.pick-slot.ensures.2 ∙ finite-picked l.work l.invariant.3,
       turn ∙ l.invariant.4,
     )
 

@@ -4,7 +4,7 @@ use mathlib.Core.Path.{◌≡◌, ◌∙◌, ap, refl}
 use native.Mathlib.Omega.{arith}
 use borrow.Author.Rules.{rules}
 use lib.ListN.{length, length-set}
-use Rattle.capi_vectors.specs.Single.{laidOver}
+use Rattle.capi_vectors.specs.Single.{laid_over}
 use Rattle.paper.proofs.Copies.{copy_more}
 use Rattle.capi_sets.proofs.inner.copy_scores.Goals as goal
 
@@ -24,4 +24,4 @@ pub returns : goal.returns
 returns c =
     let v = c.loop-i.invariant in
     let e : c.loop-i.i ≡ c.args.n = omega arith in
-    v.2 ∙ ap (λ (m : ℕ). laidOver m c.args.from.now c.args.to.now) e
+    v.2 ∙ ap (λ (m : ℕ). laid_over m c.args.from.now c.args.to.now) e

@@ -7,7 +7,7 @@ use lib.IntN.{ℤ, pos}
 use mir.Syntax.{w32}
 use mir.Val.{to_z, of_z}
 use lib.ListN.{length, length-set, get_or}
-use Rattle.capi_vectors.specs.Single.{laidOver}
+use Rattle.capi_vectors.specs.Single.{laid_over}
 use Rattle.paper.proofs.Copies.{copy_more}
 use Rattle.capi_vectors.proofs.inner.copy_faces.Goals as goal
 
@@ -47,4 +47,4 @@ pub returns : goal.returns
 returns c =
     let v = c.loop-i.invariant in
     let e : c.loop-i.i ≡ c.args.n = omega arith in
-    v.2 ∙ ap (λ (m : ℕ). laidOver m c.args.from.now c.args.to.now) e
+    v.2 ∙ ap (λ (m : ℕ). laid_over m c.args.from.now c.args.to.now) e

@@ -5,7 +5,7 @@ use mathlib.Core.Path.{◌≡◌, refl, ◌∙◌}
 use native.Mathlib.Nat.{mul-le-mul_right}
 use native.Mathlib.Omega.{arith}
 use lib.ListN.{length-take, length-set}
-use Rattle.counting_bitmap.specs.Layers.{countsOf}
+use Rattle.counting_bitmap.specs.Layers.{counts_of}
 use Rattle.counting_bitmap.proofs.Places.{counts-turn}
 use Rattle.counting_bitmap.proofs.inner.cardinalities.Goals as goal
 use Rattle.counting_bitmap.proofs.inner.cardinalities.Goals.{In-loop-i}
@@ -15,7 +15,7 @@ room : (c : In-loop-i) → (c.loop-i.i + 1) * c.args.w ≤ c.args.n * c.args.w
 room c = mul-le-mul_right _ (omega arith)
 
 pub loop-i-init : goal.loop-i-init
-unfolding countsOf
+unfolding counts_of
 loop-i-init c = (search rules, omega arith, refl, refl)
 
 pub overflow_add-at : goal.overflow_add-at

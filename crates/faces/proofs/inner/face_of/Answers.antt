@@ -9,7 +9,7 @@ use mir.Syntax.{w32}
 use mir.Val.{SFits, to_z, of_z}
 use mir.ValLaws.{to_z-of_z}
 use mir.Facts.{to_z_pos}
-use Rattle.faces.specs.Slots.{faceFor}
+use Rattle.faces.specs.Slots.{face_for}
 use Rattle.faces.proofs.inner.face_of.Goals as goal
 
 read : (b : ℕ) → b < 1024 → to_z w32 (b + 1) ≡ pos (suc b)
@@ -25,9 +25,9 @@ pub overflow_sub-result : goal.overflow_sub-result
 overflow_sub-result c = subst (SFits w32) (sym (minus c.args.b c.requires)) (small c.args.b c.requires)
 
 pub returns-then-up : goal.returns-then-up
-returns-then-up c = read c.args.b c.requires ∙ sym (ap (λ (t : Bool). faceFor t c.args.b) c.if-up.true)
+returns-then-up c = read c.args.b c.requires ∙ sym (ap (λ (t : Bool). face_for t c.args.b) c.if-up.true)
 
 pub returns-else-up : goal.returns-else-up
 returns-else-up c =
     ap (λ (z : ℤ). to_z w32 (of_z w32 z)) (minus c.args.b c.requires) ∙ to_z-of_z w32 (negsuc c.args.b) (small c.args.b c.requires)
-    ∙ sym (ap (λ (t : Bool). faceFor t c.args.b) c.if-up.false)
+    ∙ sym (ap (λ (t : Bool). face_for t c.args.b) c.if-up.false)

@@ -7,7 +7,7 @@ use native.Mathlib.Omega.{arith}
 use lib.ListN.{length, length-set}
 use mir.Syntax.{w32}
 use mir.ValLaws.{to_z-of_z}
-use Rattle.vector.specs.Finite.{allFinite}
+use Rattle.vector.specs.Finite.{all_finite}
 use Rattle.faces.proofs.Slots.{length-picked, finite-picked}
 use Rattle.faces.proofs.Picks.{face-at, picked-at, after-step, faces-step, after-end, faces-end, rest-step, written}
 use Rattle.faces.proofs.inner.pick_faces.Goals as goal
@@ -34,7 +34,7 @@ loop-k-preserved c =
       ap length P ∙ length-picked w ∙ c.loop-k.invariant.0,
       simp length-set c.loop-k.invariant.1,
       omega arith,
-      ap allFinite P ∙ finite-picked w c.loop-k.invariant.3,
+      ap all_finite P ∙ finite-picked w c.loop-k.invariant.3,
       after-step n k l w _ P ∙ c.loop-k.invariant.4,
       faces-step n k l w _ P c.loop-k.out _ (omega arith) z ∙ c.loop-k.invariant.5,
       rest-step k c.loop-k.out c.args.out.now _ c.loop-k.invariant.6,

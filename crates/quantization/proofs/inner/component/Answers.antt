@@ -4,19 +4,19 @@ use mathlib.Core.List.{List}
 use native.Mathlib.Omega.{arith}
 use lib.Ieee.{binary32, of_bits}
 use Rattle.quantization.specs.Bf16.{widened}
-use Rattle.quantization.specs.Bytes.{leWord}
-use Rattle.quantization.specs.Stored.{decoded, componentAt}
+use Rattle.quantization.specs.Bytes.{le_word}
+use Rattle.quantization.specs.Stored.{decoded, component_at}
 use Rattle.quantization.proofs.Stored.{comp-four, comp-two, decoded-four, decoded-two}
 use Rattle.quantization.proofs.inner.component.Goals as goal
 
 -- a component from the word that is read for it
-at-four : (mode at n : ℕ) (s : List ℕ) → mode ≡ 0 → n ≡ leWord s at 4 → of_bits binary32 n ≡ componentAt mode s at
-unfolding componentAt
-at-four mode at n s e h = sym (decoded-four mode n e) ∙ ap (decoded mode) (h ∙ ap (leWord s at) (sym (comp-four mode e)))
+at-four : (mode at n : ℕ) (s : List ℕ) → mode ≡ 0 → n ≡ le_word s at 4 → of_bits binary32 n ≡ component_at mode s at
+unfolding component_at
+at-four mode at n s e h = sym (decoded-four mode n e) ∙ ap (decoded mode) (h ∙ ap (le_word s at) (sym (comp-four mode e)))
 
-at-two : (mode at n m : ℕ) (s : List ℕ) → (mode ≡ 0 → ⊥) → n ≡ leWord s at 2 → m ≡ widened n → of_bits binary32 m ≡ componentAt mode s at
-unfolding componentAt
-at-two mode at n m s e h k = ap (of_bits binary32) k ∙ sym (decoded-two mode n e) ∙ ap (decoded mode) (h ∙ ap (leWord s at) (sym (comp-two mode e)))
+at-two : (mode at n m : ℕ) (s : List ℕ) → (mode ≡ 0 → ⊥) → n ≡ le_word s at 2 → m ≡ widened n → of_bits binary32 m ≡ component_at mode s at
+unfolding component_at
+at-two mode at n m s e h k = ap (of_bits binary32) k ∙ sym (decoded-two mode n e) ∙ ap (decoded mode) (h ∙ ap (le_word s at) (sym (comp-two mode e)))
 
 pub word4-requires : goal.word4-requires
 word4-requires c = omega (arith, comp-four c.args.mode c.if-mode-eq0.true)

@@ -1,10 +1,10 @@
 use Rattle.std.proofs.Common.{◌≡◌, ◌-◌, ◌<◌, ◌≤◌, length, drop, sym, refl, ◌∙◌, arith, rules}
-use Rattle.replay_drawing.specs.Digests.{digestOf}
+use Rattle.replay_drawing.specs.Digests.{digest_of}
 use Rattle.replay_drawing.proofs.Turns.{bytes-turn, bytes-end}
 use Rattle.replay_drawing.proofs.inner.digest_bytes.Given as goal
 
 abbrev pub invariant-loop-i : goal.invariant-loop-i
-invariant-loop-i l = (l.i ≤ length l.bytes) × (digestOf l.h (drop l.i l.bytes) ≡ digestOf 1 l.bytes)
+invariant-loop-i l = (l.i ≤ length l.bytes) × (digest_of l.h (drop l.i l.bytes) ≡ digest_of 1 l.bytes)
 
 abbrev pub decreases-loop-i : goal.decreases-loop-i
 decreases-loop-i l = length l.bytes - l.i

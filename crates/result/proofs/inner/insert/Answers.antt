@@ -2,15 +2,15 @@
 use mathlib.Core.Path.{◌∙◌, sym}
 use native.Mathlib.Omega.{arith}
 use Rattle.result.specs.Ranked.{entry}
-use Rattle.result.specs.Puts.{setOf}
-use Rattle.result.specs.Sets.{entriesOf}
+use Rattle.result.specs.Puts.{set_of}
+use Rattle.result.specs.Sets.{entries_of}
 use Rattle.result.proofs.Answers.{fed-stays, fed-held, fed-put, found-held, found_within, found_at}
 use Rattle.result.proofs.inner.insert.Goals as goal
 
 pub returns-then-closed_to : goal.returns-then-closed_to
 returns-then-closed_to c =
     let a = c.args in
-    let s = setOf a.ids.now a.sims.now a.len a.k 0 in
+    let s = set_of a.ids.now a.sims.now a.len a.k 0 in
     let e = entry a.id a.similarity in
     let p = c.requires in
     fed-stays s e (omega (arith, p.len_le_k, p.ids_len)) (omega (arith, p.len_le_k, p.ids_len)) p.len_le_k.0 (sym c.closed_to.ensures ∙ c.if-closed_to.true)
@@ -22,19 +22,19 @@ put-requires c = record {
 }
 
 pub returns-in-Held : goal.returns-in-Held
-unfolding entriesOf
+unfolding entries_of
 returns-in-Held c =
     let a = c.args in
-    let s = setOf a.ids.now a.sims.now a.len a.k 0 in
+    let s = set_of a.ids.now a.sims.now a.len a.k 0 in
     let e = entry a.id a.similarity in
     let p = c.requires in
     fed-held s e (omega (arith, p.len_le_k, p.ids_len)) (omega (arith, p.len_le_k, p.ids_len)) p.len_le_k.0 (sym c.closed_to.ensures ∙ c.if-closed_to.false) (found-held c.place_of.ensures c.in-Held.is)
 
 pub returns-in-At : goal.returns-in-At
-unfolding entriesOf
+unfolding entries_of
 returns-in-At c =
     let a = c.args in
-    let s = setOf a.ids.now a.sims.now a.len a.k 0 in
+    let s = set_of a.ids.now a.sims.now a.len a.k 0 in
     let e = entry a.id a.similarity in
     let p = c.requires in
     fed-put s e (omega (arith, p.len_le_k, p.ids_len)) (omega (arith, p.len_le_k, p.ids_len)) p.len_le_k.0 c.in-At.at _ (sym c.closed_to.ensures ∙ c.if-closed_to.false) (found_at c.place_of.ensures c.in-At.at c.in-At.is) c.put.ensures

@@ -2,12 +2,12 @@ use mathlib.Core.Path.{◌≡◌}
 use Prim.Native.Nat.{◌≤◌, ◌-◌}
 use mathlib.Core.List.{◌++◌}
 use lib.ListN.{length, take, drop}
-use Rattle.result.specs.Lists.{insertAt}
+use Rattle.result.specs.Lists.{insert_at}
 use Rattle.result.proofs.Push.{pushed}
 use Rattle.result.proofs.inner.push_id.Given as goal
 
 abbrev pub invariant-loop-j : goal.invariant-loop-j
-invariant-loop-j l = (l.j ≤ l.to) × ((length l.ids ≡ 256) × (take l.j l.ids ++ pushed (l.to - l.j) l.carry (drop l.j l.ids) ≡ take l.to (insertAt l.at l.x l.initial.ids) ++ drop l.to l.initial.ids))
+invariant-loop-j l = (l.j ≤ l.to) × ((length l.ids ≡ 256) × (take l.j l.ids ++ pushed (l.to - l.j) l.carry (drop l.j l.ids) ≡ take l.to (insert_at l.at l.x l.initial.ids) ++ drop l.to l.initial.ids))
 
 abbrev pub decreases-loop-j : goal.decreases-loop-j
 decreases-loop-j l = l.to - l.j

@@ -1,4 +1,6 @@
 // What every crate of the index shares: the refusal numbers, the geometry and its test, and the length of each lent memory.
+#![tactic(auto)]
+
 ghost use Rattle.std.specs.Prelude.{◌≡◌};
 ghost use Rattle.paper.specs.Geometry.{cap_ok, mode_ok, geo_ok, comp_size, geo, lengths_of};
 

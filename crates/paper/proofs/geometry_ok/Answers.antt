@@ -1,7 +1,6 @@
 use borrow.Author.Tests.{le-leb, lt-leb, not-true, not-false}
 use mathlib.Core.Path.{sym, ◌∙◌}
 use Rattle.paper.specs.Geometry.{geo_ok}
-use borrow.Author.Rules.{rules}
 use Rattle.paper.proofs.geometry_ok.Goals as goal
 
 pub returns-then-d-lt1 : goal.returns-then-d-lt1

@@ -5,7 +5,6 @@ use mathlib.Core.Path.{sym, ◌∙◌}
 use borrow.Author.Tests.{not-true, not-false}
 use Rattle.paper.specs.Geometry.{lengths_of}
 use Rattle.paper.proofs.Geometry.{geo-facts}
-use borrow.Author.Rules.{rules}
 use Rattle.paper.proofs.lengths_for.Goals as goal
 
 pub returns-then-not-geometry_ok : goal.returns-then-not-geometry_ok

@@ -1,7 +1,6 @@
 use native.Mathlib.Omega.{arith}
 use native.Mathlib.Nat.{mul-le-mul, le_refl}
 use Prim.Native.Nat.{◌/◌, ◌≤◌}
-use borrow.Author.Rules.{rules}
 use Rattle.paper.proofs.inner.face_words.Goals as goal
 
 pub overflow_mul-result-2 : goal.overflow_mul-result-2

@@ -2,7 +2,6 @@ use native.Mathlib.Omega.{arith}
 use native.Mathlib.Nat.{mul-le-mul}
 use Prim.Native.Nat.{◌≤◌}
 use Rattle.paper.proofs.Geometry.{comp-le}
-use borrow.Author.Rules.{rules}
 use Rattle.paper.proofs.inner.vector_bytes.Goals as goal
 
 pub overflow_mul-result : goal.overflow_mul-result

@@ -4,9 +4,10 @@ ghost use Rattle.std.specs.Prelude.{◌≡◌, ◌%◌, ◌/◌, ◌≤◌, leng
 ghost use Rattle.std.specs.Float.{binary32};
 ghost use Rattle.std.specs.Float.Ieee.{to_bits};
 
-// The descriptors of the standard input and the standard output.
+// The descriptor of the standard input.
 const STDIN_FILENO: i32 = 0;
 
+// The descriptor of the standard output.
 const STDOUT_FILENO: i32 = 1;
 
 // ---- numbers

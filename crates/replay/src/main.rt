@@ -8,6 +8,8 @@
 //   s K                                                   a scan for a drawn target
 //   m                                                     digests of face sets, marks and stored vectors
 // A refusal that is not in the record is written as `refused` and its number.
+#![tactic(auto)]
+
 use recorded::inner::{least, letter, low, number, show_refused, shown, shown_float, text};
 use replay_drawing::inner::Case;
 use replay_filling::inner::start;

@@ -10,9 +10,10 @@ ghost use Rattle.std.specs.Prelude.{◌+◌, ◌<◌, ◌≤◌, length};
 
 use bitmaps::{Asked, Counted, Walked};
 
-// The descriptors of the standard input and the standard output.
+// The descriptor of the standard input.
 const STDIN_FILENO: i32 = 0;
 
+// The descriptor of the standard output.
 const STDOUT_FILENO: i32 = 1;
 
 // A number of the input, and the place past the byte after it.

@@ -3,9 +3,10 @@
 // pattern in four bytes, the lowest first.
 #![tactic(auto)]
 
-// The descriptors of the standard input and the standard output.
+// The descriptor of the standard input.
 const STDIN_FILENO: i32 = 0;
 
+// The descriptor of the standard output.
 const STDOUT_FILENO: i32 = 1;
 
 // A line: the pattern and the answer, each with so many hexadecimal digits.

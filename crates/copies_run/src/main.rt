@@ -2,7 +2,7 @@
 // numbers in hexadecimal digits:
 //   c MODE N X.. LENGTH BYTE..   copies N components out, into that many bytes
 //   b MODE LENGTH BYTE..         reads that many bytes in
-// A line that starts with another letter ends the run. A refusal, which is not in the record, is written as `refused` and its number.
+// A line that starts with another letter ends the run. A refusal is written as `refused` and its number.
 #![tactic(auto)]
 
 use recorded::inner::{

@@ -6,19 +6,19 @@ ghost use Rattle.capi_index.specs.Searches.{into_nearest};
 use vector_store::Nearest;
 
 // Three numbers into three places.
-pub fn tell_three(told: &mut [u32], a: u32, b: u32, c: u32)
-    requires { length told.old ≡ 3 }
-    ensures { told.new ≡ a ∷ b ∷ c ∷ [] }
+pub fn tell_three(counts: &mut [u32], a: u32, b: u32, c: u32)
+    requires { length counts.old ≡ 3 }
+    ensures { counts.new ≡ a ∷ b ∷ c ∷ [] }
 {
-    told[0] = a;
-    told[1] = b;
-    told[2] = c;
+    counts[0] = a;
+    counts[1] = b;
+    counts[2] = c;
 }
 
 // The same for a search, with what it dropped told too.
-pub fn put_nearest(nearest: Nearest, ids: &mut [u32], scores: &mut [f32], told: &mut [u32]) -> u32
-    requires { (nearest.refusal ≡ 0 → Fits nearest.set (length ids.old) (length scores.old)) × (length told.old ≡ 3) }
-    ensures { listed result (outs ids.new scores.new told.new) ≡ into_nearest nearest (outs ids.old scores.old told.old) }
+pub fn put_nearest(nearest: Nearest, ids: &mut [u32], scores: &mut [f32], counts: &mut [u32]) -> u32
+    requires { (nearest.refusal ≡ 0 → Fits nearest.set (length ids.old) (length scores.old)) × (length counts.old ≡ 3) }
+    ensures { listed result (outs ids.new scores.new counts.new) ≡ into_nearest nearest (outs ids.old scores.old counts.old) }
 {
     if nearest.refusal != 0 {
         return nearest.refusal;
@@ -27,6 +27,6 @@ pub fn put_nearest(nearest: Nearest, ids: &mut [u32], scores: &mut [f32], told: 
     let len = set.len;
     capi_sets::inner::copy_ids(&set.ids, len, ids);
     capi_sets::inner::copy_scores(&set.sims, len, scores);
-    tell_three(told, len as u32, set.checked, nearest.dropped);
+    tell_three(counts, len as u32, set.checked, nearest.dropped);
     0
 }

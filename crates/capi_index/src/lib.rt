@@ -74,7 +74,7 @@ pub extern "C" fn bbq_merge(
 }
 
 // Ranks every present id (vector_store::full_table_scan) and writes the list: its ids and scores into the first places of two arrays of length k, its
-// length and how many ids were ranked into `told`. Refuses 1, 2 (also for the three arrays), 4, 5, 10; the arrays are then as they were.
+// length and how many ids were ranked into `counts`. Refuses 1, 2 (also for the three arrays), 4, 5, 10; the arrays are then as they were.
 #[unsafe(no_mangle)]
 pub extern "C" fn bbq_full_table_scan(
     marks: &[u64],
@@ -82,27 +82,27 @@ pub extern "C" fn bbq_full_table_scan(
     target: &[f32],
     ids: &mut [u32],
     scores: &mut [f32],
-    told: &mut [u32],
+    counts: &mut [u32],
     d: usize,
     n: usize,
     cap: usize,
     mode: usize,
     k: usize,
 ) -> u32
-    ensures { listed result (outs ids.new scores.new told.new) ≡ scan_into (geo d n cap mode) marks.now vectors.now target.now k (outs ids.old scores.old told.old) }
+    ensures { listed result (outs ids.new scores.new counts.new) ≡ scan_into (geo d n cap mode) marks.now vectors.now target.now k (outs ids.old scores.old counts.old) }
 {
     if !paper::geometry_ok(d, n, cap, mode) {
         return paper::WRONG_GEOMETRY;
     }
-    if !capi_sets::inner::room_ok(k, 2, ids.len(), scores.len(), told.len()) {
+    if !capi_sets::inner::room_ok(k, 2, ids.len(), scores.len(), counts.len()) {
         return paper::WRONG_LENGTH;
     }
     let fed = vector_store::full_table_scan(marks, vectors, target, d, n, cap, mode, k);
-    capi_sets::inner::put_fed(fed, ids, scores, told)
+    capi_sets::inner::put_fed(fed, ids, scores, counts)
 }
 
 // Searches (vector_store::find_nearest) and writes the list: its ids and scores into the first places of two arrays of length k, its length,
-// how many ids were ranked and how many were dropped into `told`. Refuses 1, 2 (also for the three arrays), 4, 5, 7, 8, 9, 10; the arrays are then as
+// how many ids were ranked and how many were dropped into `counts`. Refuses 1, 2 (also for the three arrays), 4, 5, 7, 8, 9, 10; the arrays are then as
 // they were. Refusals 1 to 5 leave the work memories as they were; past those they are all zeros.
 #[unsafe(no_mangle)]
 pub extern "C" fn bbq_find_nearest(
@@ -116,7 +116,7 @@ pub extern "C" fn bbq_find_nearest(
     target: &[f32],
     ids: &mut [u32],
     scores: &mut [f32],
-    told: &mut [u32],
+    counts: &mut [u32],
     d: usize,
     n: usize,
     cap: usize,
@@ -125,19 +125,19 @@ pub extern "C" fn bbq_find_nearest(
     search_k: usize,
     spill: usize,
 ) -> u32
-    ensures { found result (works work.new layers.new set.new) (outs ids.new scores.new told.new)
+    ensures { found result (works work.new layers.new set.new) (outs ids.new scores.new counts.new)
         ≡ search_into (geo d n cap mode) bases.now (ix_of faces.now marks.now vectors.now) target.now k search_k spill
-        (works work.old layers.old set.old) (outs ids.old scores.old told.old) }
+        (works work.old layers.old set.old) (outs ids.old scores.old counts.old) }
 {
     if !paper::geometry_ok(d, n, cap, mode) {
         return paper::WRONG_GEOMETRY;
     }
-    if !capi_sets::inner::room_ok(k, 3, ids.len(), scores.len(), told.len()) {
+    if !capi_sets::inner::room_ok(k, 3, ids.len(), scores.len(), counts.len()) {
         return paper::WRONG_LENGTH;
     }
     let nearest = vector_store::find_nearest(
         bases, faces, marks, vectors, work, layers, set, target, d, n, cap, mode, k, search_k,
         spill,
     );
-    inner::put_nearest(nearest, ids, scores, told)
+    inner::put_nearest(nearest, ids, scores, counts)
 }

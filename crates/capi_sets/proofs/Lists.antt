@@ -28,10 +28,10 @@ fed-laid f o is ss ts e p q r = rw e (λ i. listed 0 (outs (p i) (q i) (r i)))
 pub record Room (k m li ls lt : ℕ) : Type 0 where
   pub ids : li ≡ k
   pub scores : ls ≡ k
-  pub told : lt ≡ m
+  pub counts : lt ≡ m
 
 pub room : (k m li ls lt : ℕ) → room_ok k m li ls lt ≡ true → Room k m li ls lt
 unfolding room_ok
 room k m li ls lt e =
     let r = and_r (eqb li k) _ e in
-    record { ids = eqb-true _ _ (and_l (eqb li k) _ e); scores = eqb-true _ _ (and_l (eqb ls k) _ r); told = eqb-true _ _ (and_r (eqb ls k) _ r) }
+    record { ids = eqb-true _ _ (and_l (eqb li k) _ e); scores = eqb-true _ _ (and_l (eqb ls k) _ r); counts = eqb-true _ _ (and_r (eqb ls k) _ r) }

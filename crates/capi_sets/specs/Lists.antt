@@ -11,17 +11,17 @@ use Rattle.capi_vectors.specs.Single.{laid_over}
 pub record Outs : Type 0 where
   pub ids : List ℕ
   pub scores : List Float
-  pub told : List ℕ
+  pub counts : List ℕ
 
 abbrev pub outs : List ℕ → List Float → List ℕ → Outs
-outs is ss ts = record { ids = is; scores = ss; told = ts }
+outs is ss ts = record { ids = is; scores = ss; counts = ts }
 
 -- ids and scores have k places, and as many numbers are told as asked
 unfoldable pub room_ok : ℕ → ℕ → ℕ → ℕ → ℕ → Bool
 room_ok k m li ls lt = eqb li k and eqb ls k and eqb lt m
 
 abbrev pub room_in : ℕ → ℕ → Outs → Bool
-room_in k m o = room_ok k m (length o.ids) (length o.scores) (length o.told)
+room_in k m o = room_ok k m (length o.ids) (length o.scores) (length o.counts)
 
 -- a set's list in the first places of ids and scores, what lies beyond it kept, and the numbers told
 abbrev pub laid : ResultSet → List ℕ → Outs → Outs

@@ -11,9 +11,9 @@ use result::{Fed, ResultSet};
 
 // ---- a list in its arrays
 
-// Whether ids and scores have k places, and `told` has m.
-pub fn room_ok(k: usize, m: usize, ids: usize, scores: usize, told: usize) -> bool
-    ensures { result ≡ room_ok k m ids scores told }
+// Whether ids and scores have k places, and `counts` has m.
+pub fn room_ok(k: usize, m: usize, ids: usize, scores: usize, counts: usize) -> bool
+    ensures { result ≡ room_ok k m ids scores counts }
 {
     if ids != k {
         return false;
@@ -21,7 +21,7 @@ pub fn room_ok(k: usize, m: usize, ids: usize, scores: usize, told: usize) -> bo
     if scores != k {
         return false;
     }
-    told == m
+    counts == m
 }
 
 // The first n of `from` over the first n of `to`.
@@ -49,18 +49,18 @@ pub fn copy_scores(from: &[f32], n: usize, to: &mut [f32])
 }
 
 // Two numbers into two places.
-pub fn tell_two(told: &mut [u32], a: u32, b: u32)
-    requires { length told.old ≡ 2 }
-    ensures { told.new ≡ a ∷ b ∷ [] }
+pub fn tell_two(counts: &mut [u32], a: u32, b: u32)
+    requires { length counts.old ≡ 2 }
+    ensures { counts.new ≡ a ∷ b ∷ [] }
 {
-    told[0] = a;
-    told[1] = b;
+    counts[0] = a;
+    counts[1] = b;
 }
 
 // A ranked set into the arrays, with its length and count told; a refused one changes nothing. The answer is the refusal.
-pub fn put_fed(fed: Fed, ids: &mut [u32], scores: &mut [f32], told: &mut [u32]) -> u32
-    requires { (fed.refusal ≡ 0 → Fits fed.set (length ids.old) (length scores.old)) × (length told.old ≡ 2) }
-    ensures { listed result (outs ids.new scores.new told.new) ≡ into_fed fed (outs ids.old scores.old told.old) }
+pub fn put_fed(fed: Fed, ids: &mut [u32], scores: &mut [f32], counts: &mut [u32]) -> u32
+    requires { (fed.refusal ≡ 0 → Fits fed.set (length ids.old) (length scores.old)) × (length counts.old ≡ 2) }
+    ensures { listed result (outs ids.new scores.new counts.new) ≡ into_fed fed (outs ids.old scores.old counts.old) }
 {
     if fed.refusal != 0 {
         return fed.refusal;
@@ -69,7 +69,7 @@ pub fn put_fed(fed: Fed, ids: &mut [u32], scores: &mut [f32], told: &mut [u32]) 
     let len = set.len;
     copy_ids(&set.ids, len, ids);
     copy_scores(&set.sims, len, scores);
-    tell_two(told, len as u32, set.checked);
+    tell_two(counts, len as u32, set.checked);
     0
 }
 

@@ -54,7 +54,7 @@ pub extern "C" fn bbq_top_k(
 }
 
 // A new result set with k, fed the pairs of two arrays in turn (result::ResultSet::new and feed), and written as a list: ids and scores into the first places of
-// two arrays of length k, its length and count into `told`. Refuses 2 for ids and scores of unequal length and for the three arrays, then 4, then what the
+// two arrays of length k, its length and count into `counts`. Refuses 2 for ids and scores of unequal length and for the three arrays, then 4, then what the
 // first refused feed gives; the arrays are then as they were.
 #[unsafe(no_mangle)]
 pub extern "C" fn bbq_feed(
@@ -63,16 +63,16 @@ pub extern "C" fn bbq_feed(
     scores: &[f32],
     out_ids: &mut [u32],
     out_scores: &mut [f32],
-    told: &mut [u32],
+    counts: &mut [u32],
 ) -> u32
-    ensures { listed result (outs out_ids.new out_scores.new told.new) ≡ feed_into k ids.now scores.now (outs out_ids.old out_scores.old told.old) }
+    ensures { listed result (outs out_ids.new out_scores.new counts.new) ≡ feed_into k ids.now scores.now (outs out_ids.old out_scores.old counts.old) }
 {
     if ids.len() != scores.len() {
         return paper::WRONG_LENGTH;
     }
-    if !inner::room_ok(k, 2, out_ids.len(), out_scores.len(), told.len()) {
+    if !inner::room_ok(k, 2, out_ids.len(), out_scores.len(), counts.len()) {
         return paper::WRONG_LENGTH;
     }
     let fed = inner::feed_new(k, ids, scores);
-    inner::put_fed(fed, out_ids, out_scores, told)
+    inner::put_fed(fed, out_ids, out_scores, counts)
 }

@@ -18,7 +18,7 @@ returns-then-not-geometry_ok c =
     let g = geo a.d a.n a.cap a.mode in
     let ix = ix_of a.faces.now a.marks.now a.vectors.now in
     let m = works a.work.now a.layers.now a.set.now in
-    let o = outs a.ids.now a.scores.now a.told.now in
+    let o = outs a.ids.now a.scores.now a.counts.now in
     search-geometry g a.bases.now ix a.target.now a.k a.search_k a.spill m o (sym c.geometry_ok.ensures ∙ c.if-not-geometry_ok.true)
 
 pub room_ok-requires : goal.room_ok-requires
@@ -30,7 +30,7 @@ returns-then-not-room_ok c =
     let g = geo a.d a.n a.cap a.mode in
     let ix = ix_of a.faces.now a.marks.now a.vectors.now in
     let m = works a.work.now a.layers.now a.set.now in
-    let o = outs a.ids.now a.scores.now a.told.now in
+    let o = outs a.ids.now a.scores.now a.counts.now in
     search-room g a.bases.now ix a.target.now a.k a.search_k a.spill m o (sym c.geometry_ok.ensures ∙ c.if-not-geometry_ok.false) (sym c.room_ok.ensures ∙ c.if-not-room_ok.true)
 
 pub find_nearest-nearest-requires : goal.find_nearest-nearest-requires
@@ -43,7 +43,7 @@ put_nearest-requires c =
     let ix = ix_of a.faces.now a.marks.now a.vectors.now in
     let m = works a.work.now a.layers.now a.set.now in
     let r = room _ _ _ _ _ (sym c.room_ok.ensures ∙ c.if-not-room_ok.false) in
-    (search-fits g a.bases.now ix a.target.now a.k a.search_k a.spill m _ _ _ c.find_nearest-nearest.ensures r.ids r.scores, r.told)
+    (search-fits g a.bases.now ix a.target.now a.k a.search_k a.spill m _ _ _ c.find_nearest-nearest.ensures r.ids r.scores, r.counts)
 
 pub shape_of-work : goal.shape_of-work
 shape_of-work c = c.find_nearest-nearest.auto.work
@@ -60,8 +60,8 @@ shape_of-ids c = c.put_nearest.auto.ids
 pub shape_of-scores : goal.shape_of-scores
 shape_of-scores c = c.put_nearest.auto.scores
 
-pub shape_of-told : goal.shape_of-told
-shape_of-told c = c.put_nearest.auto.told
+pub shape_of-counts : goal.shape_of-counts
+shape_of-counts c = c.put_nearest.auto.counts
 
 pub returns : goal.returns
 returns c =
@@ -69,6 +69,6 @@ returns c =
     let g = geo a.d a.n a.cap a.mode in
     let ix = ix_of a.faces.now a.marks.now a.vectors.now in
     let m = works a.work.now a.layers.now a.set.now in
-    let o = outs a.ids.now a.scores.now a.told.now in
+    let o = outs a.ids.now a.scores.now a.counts.now in
     search-into g a.bases.now ix a.target.now a.k a.search_k a.spill m o _ _ (sym c.geometry_ok.ensures ∙ c.if-not-geometry_ok.false) (sym c.room_ok.ensures ∙ c.if-not-room_ok.false)
     c.find_nearest-nearest.ensures c.put_nearest.ensures

@@ -14,7 +14,7 @@ pub returns-then-not-geometry_ok : goal.returns-then-not-geometry_ok
 returns-then-not-geometry_ok c =
     let a = c.args in
     let g = geo a.d a.n a.cap a.mode in
-    let o = outs a.ids.now a.scores.now a.told.now in
+    let o = outs a.ids.now a.scores.now a.counts.now in
     scan-geometry g a.marks.now a.vectors.now a.target.now a.k o (sym c.geometry_ok.ensures ∙ c.if-not-geometry_ok.true)
 
 pub room_ok-requires : goal.room_ok-requires
@@ -24,7 +24,7 @@ pub returns-then-not-room_ok : goal.returns-then-not-room_ok
 returns-then-not-room_ok c =
     let a = c.args in
     let g = geo a.d a.n a.cap a.mode in
-    let o = outs a.ids.now a.scores.now a.told.now in
+    let o = outs a.ids.now a.scores.now a.counts.now in
     scan-room g a.marks.now a.vectors.now a.target.now a.k o (sym c.geometry_ok.ensures ∙ c.if-not-geometry_ok.false) (sym c.room_ok.ensures ∙ c.if-not-room_ok.true)
 
 pub full_table_scan-fed-requires : goal.full_table_scan-fed-requires
@@ -35,7 +35,7 @@ put_fed-requires c =
     let a = c.args in
     let g = geo a.d a.n a.cap a.mode in
     let r = room _ _ _ _ _ (sym c.room_ok.ensures ∙ c.if-not-room_ok.false) in
-    (scan-fits g a.marks.now a.vectors.now a.target.now a.k _ _ _ c.full_table_scan-fed.ensures r.ids r.scores, r.told)
+    (scan-fits g a.marks.now a.vectors.now a.target.now a.k _ _ _ c.full_table_scan-fed.ensures r.ids r.scores, r.counts)
 
 pub shape_of-ids : goal.shape_of-ids
 shape_of-ids c = c.put_fed.auto.ids
@@ -43,13 +43,13 @@ shape_of-ids c = c.put_fed.auto.ids
 pub shape_of-scores : goal.shape_of-scores
 shape_of-scores c = c.put_fed.auto.scores
 
-pub shape_of-told : goal.shape_of-told
-shape_of-told c = c.put_fed.auto.told
+pub shape_of-counts : goal.shape_of-counts
+shape_of-counts c = c.put_fed.auto.counts
 
 pub returns : goal.returns
 returns c =
     let a = c.args in
     let g = geo a.d a.n a.cap a.mode in
-    let o = outs a.ids.now a.scores.now a.told.now in
+    let o = outs a.ids.now a.scores.now a.counts.now in
     scan-into g a.marks.now a.vectors.now a.target.now a.k o _ _ (sym c.geometry_ok.ensures ∙ c.if-not-geometry_ok.false) (sym c.room_ok.ensures ∙ c.if-not-room_ok.false)
     c.full_table_scan-fed.ensures c.put_fed.ensures

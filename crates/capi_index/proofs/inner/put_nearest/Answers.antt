@@ -6,7 +6,7 @@ use Rattle.capi_index.proofs.Cases.{nearest-kept, nearest-laid}
 use Rattle.capi_index.proofs.inner.put_nearest.Goals as goal
 
 pub returns-then-nearest-ne0 : goal.returns-then-nearest-ne0
-returns-then-nearest-ne0 c = let a = c.args in nearest-kept a.nearest (outs a.ids.now a.scores.now a.told.now) c.if-nearest-ne0.true
+returns-then-nearest-ne0 c = let a = c.args in nearest-kept a.nearest (outs a.ids.now a.scores.now a.counts.now) c.if-nearest-ne0.true
 
 pub copy_ids-requires : goal.copy_ids-requires
 copy_ids-requires c =
@@ -27,10 +27,10 @@ shape_of-ids c = c.copy_ids.auto.to
 pub shape_of-scores : goal.shape_of-scores
 shape_of-scores c = c.copy_scores.auto.to
 
-pub shape_of-told : goal.shape_of-told
-shape_of-told c = c.tell_three.auto.told
+pub shape_of-counts : goal.shape_of-counts
+shape_of-counts c = c.tell_three.auto.counts
 
 pub returns : goal.returns
 returns c =
     let a = c.args in
-    nearest-laid a.nearest (outs a.ids.now a.scores.now a.told.now) _ _ _ c.if-nearest-ne0.false c.copy_ids.ensures c.copy_scores.ensures c.tell_three.ensures
+    nearest-laid a.nearest (outs a.ids.now a.scores.now a.counts.now) _ _ _ c.if-nearest-ne0.false c.copy_ids.ensures c.copy_scores.ensures c.tell_three.ensures

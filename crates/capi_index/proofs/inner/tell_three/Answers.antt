@@ -4,4 +4,4 @@ use Rattle.capi_vectors.proofs.Places.{three-places}
 use Rattle.capi_index.proofs.inner.tell_three.Goals as goal
 
 pub returns : goal.returns
-returns c = three-places c.args.told.now _ _ _ c.requires
+returns c = three-places c.args.counts.now _ _ _ c.requires

@@ -3,4 +3,4 @@ use Rattle.capi_vectors.proofs.Places.{two-places}
 use Rattle.capi_sets.proofs.inner.tell_two.Goals as goal
 
 pub returns : goal.returns
-returns c = two-places c.args.told.now _ _ c.requires
+returns c = two-places c.args.counts.now _ _ c.requires

@@ -487,11 +487,11 @@ class Building(Sentences):
 
     def toolchain(self, last=''):
         self.script('rt', f'''
-            [ "$*" = "run search" ] || exit 9
+            [ "$*:${{PWD##*/}}" = run:search ] || exit 9
             cat                                     # nothing of the script's own input may come here
             for name in a b c d e f search; do echo "fn $name::f: proved"; echo "logic=proved functions=1 sum=0"; done
             {last}
-            mkdir -p crates/search/out && printf '#!/bin/sh\\nexec cat\\n' > crates/search/out/search && chmod +x crates/search/out/search
+            mkdir -p out && printf '#!/bin/sh\\nexec cat\\n' > out/search && chmod +x out/search
             echo "rt: running out/search; to give it other input, run that file yourself"''')
 
     def search(self, *words, data=b'', path=None, **env):
@@ -541,7 +541,7 @@ class Building(Sentences):
         said = ran.stderr.decode()
         self.assertEqual((ran.returncode, ran.stdout), (1, b''))
         self.assertIn('fn search::main: not proved', said)
-        self.assertTrue(said.endswith('search: the program could not be built; rt run search shows all of it.\n'), said)
+        self.assertTrue(said.endswith('search: the program could not be built; rt run in crates/search shows all of it.\n'), said)
 
     def test_another_processor(self):
         self.toolchain()

@@ -1,13 +1,11 @@
 -- `adding::slots_of` meets its contract: after b turns the first b projections are finite, and the first b slots are found. Assumes nothing.
--- a basis is there for this turn
-use Prim.Native.Nat.{ℕ, ◌+◌, ◌*◌, ◌-◌, ◌≤◌, ◌<◌}
+use Prim.Native.Nat.{ℕ, ◌+◌, ◌*◌, ◌≤◌, ◌<◌}
 use mathlib.Core.Path.{◌≡◌, ◌∙◌, sym, ap, refl, subst}
 use mathlib.Core.Bool.{true, false}
 use native.Mathlib.Omega.{arith}
 use native.Mathlib.Nat.{mul-le-mul}
 use borrow.Author.Rules.{rules}
-use borrow.Author.Tests.{not-true, not-false}
-use lib.ListN.{length, get_or, length-set}
+use lib.ListN.{length, length-set}
 use Rattle.index_memory.proofs.Places.{part_end, part-long}
 use Rattle.vector.specs.Finite.{allFinite}
 use Rattle.faces.specs.Slots.{slot_of}
@@ -26,6 +24,7 @@ pub loop-b-init : goal.loop-b-init
 unfolding projectionsFinite
 loop-b-init c = (search rules, omega arith, c.requires.work, refl, refl, λ j (l : j < 0). absurd (omega arith))
 
+-- a basis is there for this turn
 here : (c : In-loop-b) → c.loop-b.p + c.args.d * c.args.d ≤ length c.args.bases.now
 here c =
     let a = c.args in

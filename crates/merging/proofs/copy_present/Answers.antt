@@ -1,7 +1,6 @@
 -- `merging::copy_present` meets its contract: the marked slots before `at` are copied. Assumes nothing.
--- a marked id was found
-use Prim.Native.Nat.{ℕ, ◌+◌, ◌*◌, ◌-◌, ◌≤◌}
-use mathlib.Core.Path.{◌≡◌, ◌∙◌, sym, refl, subst}
+use Prim.Native.Nat.{ℕ, ◌+◌, ◌*◌, ◌≤◌}
+use mathlib.Core.Path.{◌∙◌, sym, refl, subst}
 use native.Mathlib.Omega.{arith}
 use native.Mathlib.Nat.{mul-le-mul}
 use borrow.Author.Rules.{rules}
@@ -21,6 +20,7 @@ loop-i-init c = (search rules, refl, refl)
 pub next-requires : goal.next-requires
 next-requires c = c.requires.marks-high
 
+-- a marked id was found
 got : (c : In-At) → NextIs c.args.marks.now c.loop-i.at (At c.in-At.i)
 got c = rw c.in-At.is at c.next.ensures
 

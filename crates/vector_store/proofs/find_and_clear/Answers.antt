@@ -5,7 +5,6 @@ use Rattle.index_memory.specs.Memory.{floatZeros}
 use Rattle.bitmaps.specs.Words.{empty}
 use Rattle.candidates.specs.Gathering.{queryOf}
 use Rattle.vector_store.specs.Search.{foundOf, works, searched}
-use borrow.Author.Rules.{rules}
 use Rattle.vector_store.proofs.find_and_clear.Goals as goal
 
 pub returns : goal.returns

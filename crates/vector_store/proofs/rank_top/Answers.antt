@@ -1,5 +1,4 @@
 -- `vector_store::rank_top` meets its contract. Assumes nothing.
--- a layer was found
 use native.Mathlib.Omega.{arith}
 use Prim.Native.Nat.{◌+◌, ◌*◌, ◌≤◌}
 use mathlib.Core.Path.{◌≡◌, ◌∙◌, sym}
@@ -7,10 +6,10 @@ use lib.ListN.{length}
 use Rattle.counting_bitmap.specs.TopLayer.{top_of}
 use Rattle.counting_bitmap.specs.declared.Top.TheVariants.{Layer}
 use Rattle.vector_store.proofs.Cases.{top-none, top-ranked, layer-end, layer-long}
-use borrow.Author.Rules.{rules}
 use Rattle.vector_store.proofs.rank_top.Goals as goal
 use Rattle.vector_store.proofs.rank_top.Goals.{In-Layer}
 
+-- a layer was found
 top-is : (c : In-Layer) → top_of c.args.n c.args.w c.args.layers.now c.args.search_k ≡ Layer c.in-Layer.i
 top-is c = sym c.top_layer.ensures ∙ c.in-Layer.is
 

@@ -1,5 +1,4 @@
 -- `worked_examples::laws`: P1 to P12 hold, the checker computes each from the definitions. Assumes nothing.
--- `rootOf` computes, and what it gives is the root
 use mathlib.Core.Path.{◌≡◌, refl, subst}
 use Prim.Native.Nat.{ℕ, ◌<◌}
 use native.Mathlib.Omega.{arith}
@@ -24,6 +23,7 @@ use Rattle.result.proofs.Leaves.{leaves}
 use Rattle.worked_examples.specs.Examples.{examples, All}
 use Rattle.worked_examples.proofs.laws.Goals as goal
 
+-- `rootOf` computes, and what it gives is the root
 rooted : (b q : ℕ) → b < 0x1_0000_0000 → rootOf b ≡ q → Sqrt b q
 rooted b q h e = subst (Sqrt b) e (root-of b h)
 

@@ -1,10 +1,10 @@
 -- `adding::add_to_bitmaps` meets its contract: after b turns the id is in the face sets of the first b bases. Assumes nothing.
-use Prim.Native.Nat.{ℕ, ◌+◌, ◌*◌, ◌-◌, ◌≤◌, ◌<◌}
+use Prim.Native.Nat.{ℕ, ◌+◌, ◌*◌, ◌≤◌, ◌<◌}
 use mathlib.Core.Path.{◌≡◌, ◌∙◌, sym, ap, refl, subst}
 use native.Mathlib.Omega.{arith}
 use native.Mathlib.Nat.{mul-le-mul, le_refl}
 use borrow.Author.Rules.{rules}
-use lib.ListN.{length, get_or}
+use lib.ListN.{get_or}
 use Rattle.index_memory.specs.Memory.{face_bit}
 use Rattle.index_memory.proofs.Places.{face-bit-low}
 use Rattle.adding.specs.Adding.{with_faces}

@@ -1,13 +1,7 @@
-use Prim.Native.Nat.{ℕ, ◌+◌, ◌*◌, ◌-◌, ◌≤◌, ◌<◌}
-use mathlib.Core.Path.{◌≡◌, ◌∙◌, sym, ap, refl, subst}
-use native.Mathlib.Omega.{arith}
-use native.Mathlib.Nat.{mul-le-mul, le_refl}
-use borrow.Author.Rules.{rules}
+use Prim.Native.Nat.{◌-◌, ◌≤◌}
+use mathlib.Core.Path.{◌≡◌}
 use lib.ListN.{length, get_or}
-use Rattle.index_memory.specs.Memory.{face_bit}
-use Rattle.index_memory.proofs.Places.{face-bit-low}
 use Rattle.adding.specs.Adding.{with_faces}
-use Rattle.adding.proofs.Turns.{with-more}
 use Rattle.adding.proofs.add_to_bitmaps.Given as goal
 
 abbrev pub invariant-loop-b : goal.invariant-loop-b

@@ -1,12 +1,10 @@
 -- `adding::add_vector` meets its contract. Assumes nothing.
 use Prim.Native.Nat.{ℕ}
 use mathlib.Core.Path.{◌∙◌, sym, ap}
-use borrow.Author.Tests.{not-true, not-false}
 use Rattle.paper.specs.Geometry.{geo}
 use Rattle.index_memory.specs.Memory.{float_zeros}
 use Rattle.adding.proofs.Shape.{shaped-by}
 use Rattle.adding.proofs.Cases.{shape-refused, five-refused, late-done}
-use borrow.Author.Rules.{rules}
 use Rattle.adding.proofs.add_vector.Goals as goal
 
 pub returns-then-s-ne0 : goal.returns-then-s-ne0

@@ -4,7 +4,6 @@ use mathlib.Core.Path.{◌∙◌, sym, refl, subst}
 use Rattle.paper.specs.Geometry.{geo}
 use Rattle.adding.proofs.Cases.{late-six, late-seven, late-none, was-finite, was-not, written_is}
 use Rattle.adding.proofs.Accepted.{face-slot-low}
-use borrow.Author.Rules.{rules}
 use Rattle.adding.proofs.check_and_write.Goals as goal
 
 pub returns-then-normalize_into-ne0 : goal.returns-then-normalize_into-ne0

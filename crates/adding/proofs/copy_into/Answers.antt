@@ -1,10 +1,9 @@
 -- `adding::copy_into` meets its contract: after i turns the first i components are the vector's. Assumes nothing.
-use Prim.Native.Nat.{ℕ, ◌+◌, ◌-◌, ◌≤◌, ◌<◌}
+use Prim.Native.Nat.{ℕ, ◌<◌}
 use mathlib.Core.Path.{◌≡◌, ◌∙◌, refl}
-use mathlib.Core.List.{◌++◌}
 use native.Mathlib.Omega.{arith}
 use borrow.Author.Rules.{rules}
-use lib.ListN.{length, take, drop, length-set}
+use lib.ListN.{length, length-set}
 use Rattle.paper.proofs.Copies.{copy_more}
 use Rattle.adding.proofs.Turns.{copy-all}
 use Rattle.adding.proofs.copy_into.Goals as goal

@@ -1,11 +1,7 @@
-use Prim.Native.Nat.{ℕ, ◌+◌, ◌-◌, ◌≤◌, ◌<◌}
-use mathlib.Core.Path.{◌≡◌, ◌∙◌, refl}
+use Prim.Native.Nat.{◌-◌, ◌≤◌}
+use mathlib.Core.Path.{◌≡◌}
 use mathlib.Core.List.{◌++◌}
-use native.Mathlib.Omega.{arith}
-use borrow.Author.Rules.{rules}
-use lib.ListN.{length, take, drop, length-set}
-use Rattle.paper.proofs.Copies.{copy_more}
-use Rattle.adding.proofs.Turns.{copy-all}
+use lib.ListN.{length, take, drop}
 use Rattle.adding.proofs.copy_into.Given as goal
 
 abbrev pub invariant-loop-i : goal.invariant-loop-i

@@ -1,7 +1,6 @@
 -- `adding::lent_lengths_ok` meets its contract. Assumes nothing.
 use mathlib.Core.Path.{sym, ◌∙◌}
-use borrow.Author.Rules.{rules}
-use borrow.Author.Tests.{eq-eqb, ne_eqb, not-true, not-false}
+use borrow.Author.Tests.{eq-eqb, ne_eqb}
 use Rattle.adding.specs.Adding.{lent_ok}
 use Rattle.adding.proofs.lent_lengths_ok.Goals as goal
 

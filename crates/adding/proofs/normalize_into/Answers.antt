@@ -1,7 +1,6 @@
 -- `adding::normalize_into` meets its contract. Assumes nothing.
 use mathlib.Core.Path.{◌∙◌, ap}
 use Rattle.vector.specs.Norm.{Normal, norm_number, normalized}
-use borrow.Author.Rules.{rules}
 use Rattle.adding.proofs.normalize_into.Goals as goal
 
 pub returns : goal.returns

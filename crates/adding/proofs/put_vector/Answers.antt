@@ -8,7 +8,6 @@ use Rattle.paper.specs.Geometry.{comp_size}
 use Rattle.paper.proofs.Geometry.{comp-le}
 use Rattle.index_memory.proofs.Places.{place}
 use Rattle.adding.specs.Adding.{with_vector}
-use borrow.Author.Rules.{rules}
 use Rattle.adding.proofs.put_vector.Goals as goal
 
 pub overflow_mul-size : goal.overflow_mul-size

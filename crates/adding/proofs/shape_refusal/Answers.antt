@@ -1,7 +1,6 @@
 -- `adding::shape_refusal` meets its contract. Assumes nothing.
 use mathlib.Core.Path.{sym, ◌∙◌}
-use borrow.Author.Rules.{rules}
-use borrow.Author.Tests.{not-true, not-false, lt-ltb, le-ltb}
+use borrow.Author.Tests.{lt-ltb, le-ltb}
 use Rattle.paper.specs.Geometry.{geo}
 use Rattle.adding.proofs.Shape.{own-refused, own-bounds, lent-refused, id-decides}
 use Rattle.adding.proofs.shape_refusal.Goals as goal

@@ -1,12 +1,11 @@
 -- `adding::slots_of` meets its contract: after b turns the first b projections are finite, and the first b slots are found. Assumes nothing.
-use Prim.Native.Nat.{ℕ, ◌+◌, ◌*◌, ◌-◌, ◌≤◌, ◌<◌}
+use Prim.Native.Nat.{ℕ, ◌+◌, ◌*◌, ◌≤◌, ◌<◌}
 use mathlib.Core.Path.{◌≡◌, ◌∙◌, sym, ap, refl, subst}
 use mathlib.Core.Bool.{true, false}
 use native.Mathlib.Omega.{arith}
 use native.Mathlib.Nat.{mul-le-mul}
 use borrow.Author.Rules.{rules}
-use borrow.Author.Tests.{not-true, not-false}
-use lib.ListN.{length, get_or, length-set}
+use lib.ListN.{length, length-set}
 use Rattle.index_memory.proofs.Places.{part_end, part-long}
 use Rattle.vector.specs.Finite.{all_finite}
 use Rattle.faces.specs.Slots.{slot_of}

@@ -1,19 +1,9 @@
-use Prim.Native.Nat.{ℕ, ◌+◌, ◌*◌, ◌-◌, ◌≤◌, ◌<◌}
-use mathlib.Core.Path.{◌≡◌, ◌∙◌, sym, ap, refl, subst}
-use mathlib.Core.Bool.{true, false}
-use native.Mathlib.Omega.{arith}
-use native.Mathlib.Nat.{mul-le-mul}
-use borrow.Author.Rules.{rules}
-use borrow.Author.Tests.{not-true, not-false}
-use lib.ListN.{length, get_or, length-set}
-use Rattle.index_memory.proofs.Places.{part_end, part-long}
-use Rattle.vector.specs.Finite.{all_finite}
-use Rattle.faces.specs.Slots.{slot_of}
-use Rattle.basis.specs.Bases.{projection_at, projections_finite}
+use Prim.Native.Nat.{ℕ, ◌*◌, ◌-◌, ◌≤◌, ◌<◌}
+use mathlib.Core.Path.{◌≡◌}
+use mathlib.Core.Bool.{true}
+use lib.ListN.{length, get_or}
+use Rattle.basis.specs.Bases.{projections_finite}
 use Rattle.adding.specs.Adding.{face_slot}
-use Rattle.basis.proofs.Bases.{finite-more, finite-no}
-use Rattle.adding.proofs.Turns.{projection-here, next-part, slot-more}
-use Rattle.adding.proofs.Cases.{slots-refused, slots-found}
 use Rattle.adding.proofs.slots_of.Given as goal
 
 abbrev pub invariant-loop-b : goal.invariant-loop-b

@@ -1,6 +1,5 @@
 -- `adding::write` meets its contract. Assumes nothing.
 use mathlib.Core.Path.{refl}
-use borrow.Author.Rules.{rules}
 use Rattle.adding.proofs.write.Goals as goal
 
 pub returns : goal.returns

@@ -1,6 +1,5 @@
 -- `capi_index::bbq_find_nearest` meets its contract. Assumes nothing.
 use mathlib.Core.Path.{sym, ◌∙◌}
-use borrow.Author.Tests.{not-true, not-false}
 use Rattle.paper.specs.Geometry.{geo}
 use Rattle.index_memory.specs.Memory.{ix_of}
 use Rattle.vector_store.specs.Search.{works}

@@ -1,6 +1,5 @@
 -- `capi_index::bbq_full_table_scan` meets its contract. Assumes nothing.
 use mathlib.Core.Path.{sym, ◌∙◌}
-use borrow.Author.Tests.{not-true, not-false}
 use Rattle.paper.specs.Geometry.{geo}
 use Rattle.capi_sets.specs.Lists.{outs}
 use Rattle.capi_sets.proofs.Lists.{room}

@@ -1,5 +1,4 @@
 -- `capi_index::inner::put_nearest` meets its contract. Assumes nothing.
-use borrow.Author.Rules.{rules}
 use native.Mathlib.Omega.{arith}
 use Rattle.capi_sets.specs.Lists.{outs}
 use Rattle.capi_index.proofs.Cases.{nearest-kept, nearest-laid}

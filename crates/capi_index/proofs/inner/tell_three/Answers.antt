@@ -1,5 +1,4 @@
 -- `capi_index::inner::tell_three` meets its contract. Assumes nothing.
-use borrow.Author.Rules.{rules}
 use Rattle.capi_vectors.proofs.Places.{three-places}
 use Rattle.capi_index.proofs.inner.tell_three.Goals as goal
 

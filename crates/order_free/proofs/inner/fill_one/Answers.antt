@@ -2,7 +2,6 @@
 use Rattle.paper.specs.Geometry.{geo}
 use Rattle.order_free.specs.Order.{addition}
 use Rattle.order_free.proofs.Reached.{one-filled}
-use borrow.Author.Rules.{rules}
 use Rattle.order_free.proofs.inner.fill_one.Goals as goal
 
 pub returns : goal.returns

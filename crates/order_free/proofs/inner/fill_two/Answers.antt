@@ -3,7 +3,6 @@ use mathlib.Core.Path.{◌∙◌}
 use Rattle.paper.specs.Geometry.{geo}
 use Rattle.order_free.specs.Order.{addition}
 use Rattle.order_free.proofs.Reached.{two-filled}
-use borrow.Author.Rules.{rules}
 use Rattle.order_free.proofs.inner.fill_two.Goals as goal
 
 pub returns : goal.returns

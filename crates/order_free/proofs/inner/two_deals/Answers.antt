@@ -3,7 +3,6 @@ use mathlib.Core.Path.{◌∙◌, refl}
 use Rattle.paper.specs.Geometry.{geo}
 use Rattle.order_free.specs.Order.{addition}
 use Rattle.order_free.proofs.Reached.{either-deal, fill-again}
-use borrow.Author.Rules.{rules}
 use Rattle.order_free.proofs.inner.two_deals.Goals as goal
 
 pub fill_one-requires-2 : goal.fill_one-requires-2

@@ -3,7 +3,6 @@ use mathlib.Core.Path.{refl}
 use Rattle.paper.specs.Geometry.{geo}
 use Rattle.order_free.specs.Order.{addition}
 use Rattle.order_free.proofs.Reached.{either_order, fill-again}
-use borrow.Author.Rules.{rules}
 use Rattle.order_free.proofs.inner.two_orders.Goals as goal
 
 pub fill_two-requires-2 : goal.fill_two-requires-2

@@ -3,7 +3,7 @@ use Rattle.std.specs.Prelude.{◌≡◌, Bool, true, false, List, [], ◌∷◌,
 use Rattle.steps.specs.Steps.{State}
 use Rattle.session.specs.Runs.{feed_of}
 use Rattle.session.specs.Played.{shown, Played}
-use Rattle.console.specs.Turns.{Outside, Next, over, on, next_of, last_of}
+use Rattle.console.specs.Turns.{Outside, over, on, next_of, last_of}
 
 -- the pieces that a turn has read: one where feed waits, else none
 abbrev pub taken : Bool → Outside → List (List ℕ) → List (List ℕ)

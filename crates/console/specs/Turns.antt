@@ -1,5 +1,5 @@
 -- One turn of the program's loop, and what turns one after another come to (01, "The search program").
-use Rattle.std.specs.Prelude.{ℕ, ◌-◌, ◌≤◌, ◌≡◌, Bool, true, false, List, [], ◌∷◌, ◌++◌, length, take, drop}
+use Rattle.std.specs.Prelude.{ℕ, ◌-◌, ◌≤◌, ◌≡◌, Bool, List, [], ◌++◌, length, take, drop}
 use Rattle.paper.specs.Choice.{pick}
 use Rattle.steps.specs.Steps.{State, held}
 use Rattle.session.specs.Runs.{Far, feed_of, end_text}

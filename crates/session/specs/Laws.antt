@@ -1,5 +1,5 @@
 -- The laws of a run: however its input comes in, the program prints the same, and it comes to its end.
-use Rattle.std.specs.Prelude.{ℕ, ◌+◌, ◌≤◌, ◌<◌, ◌≡◌, true, false, List, [], ◌∷◌, ◌++◌, length, drop}
+use Rattle.std.specs.Prelude.{ℕ, ◌+◌, ◌≤◌, ◌<◌, ◌≡◌, true, false, List, [], ◌++◌, length, drop}
 use Rattle.records.specs.Fields.{u16_at}
 use Rattle.lines.specs.Lines.{told}
 use Rattle.lines.specs.declared.Told.TheVariants as Says

@@ -1,5 +1,5 @@
 use mathlib.Core.List.{[], ◌∷◌}
-use Rattle.lines.specs.Lines.{hexadecimal, glyph}
+use Rattle.lines.specs.Lines.{hexadecimal}
 use Rattle.lines.proofs.Texts.{put_as}
 use Rattle.lines.proofs.inner.put_hexadecimal.Goals as goal
 

@@ -1,6 +1,5 @@
-use mathlib.Core.List.{◌∷◌}
-use mathlib.Core.Path.{◌≡◌, ◌∙◌}
-use Prim.Native.Nat.{◌+◌, ◌-◌, ◌≤◌, ◌<◌}
+use mathlib.Core.Path.{◌≡◌}
+use Prim.Native.Nat.{◌-◌, ◌≤◌}
 use lib.ListN.{length, drop}
 use Rattle.lines.specs.Lines.{trimmed}
 use Rattle.lines.proofs.inner.trimmed_part.Given as goal

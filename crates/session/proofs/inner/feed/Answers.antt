@@ -1,6 +1,5 @@
-use mathlib.Core.Path.{◌≡◌, refl, sym, ap, ◌∙◌}
+use mathlib.Core.Path.{refl, sym, ap, ◌∙◌}
 use native.Mathlib.Omega.{arith}
-use Prim.Native.Nat.{◌-◌}
 use Rattle.session.specs.Runs.{frame_of}
 use Rattle.session.proofs.Feeds.{going_start, rest-is, record_is, going-room, going-turn, ends-part, ends-full, ends-bad}
 use Rattle.session.proofs.inner.feed.Goals as goal

@@ -5,7 +5,6 @@ use Rattle.index_memory.specs.Memory.{float_zeros}
 use Rattle.bitmaps.specs.Words.{empty}
 use Rattle.candidates.specs.Gathering.{query_of}
 use Rattle.vector_store.specs.Search.{found_of, works, searched}
-use borrow.Author.Rules.{rules}
 use Rattle.vector_store.proofs.find_and_clear.Goals as goal
 
 pub returns : goal.returns

@@ -1,12 +1,10 @@
 -- `vector_store::find_nearest` meets its contract. Assumes nothing.
 use mathlib.Core.Path.{◌∙◌, sym}
-use borrow.Author.Tests.{not-true, not-false}
 use lib.ListN.{length}
 use Rattle.paper.specs.Geometry.{geo}
 use Rattle.index_memory.specs.Memory.{ix_of}
 use Rattle.vector_store.specs.Search.{works}
 use Rattle.vector_store.proofs.Cases.{find-args, search-shape, search-four, search-five, search-done}
-use borrow.Author.Rules.{rules}
 use Rattle.vector_store.proofs.find_nearest.Goals as goal
 
 pub returns-then-num-ne0 : goal.returns-then-num-ne0

@@ -2,7 +2,6 @@
 use lib.ListN.{length}
 use Rattle.candidates.specs.Gathering.{query_of}
 use Rattle.vector_store.proofs.Cases.{found-refused, found-done}
-use borrow.Author.Rules.{rules}
 use Rattle.vector_store.proofs.find_nearest_internal.Goals as goal
 
 pub returns-then-gathered-ne0 : goal.returns-then-gathered-ne0

@@ -6,7 +6,6 @@ use lib.ListN.{length}
 use Rattle.counting_bitmap.specs.TopLayer.{top_of}
 use Rattle.counting_bitmap.specs.declared.Top.TheVariants.{Layer}
 use Rattle.vector_store.proofs.Cases.{top-none, top-ranked, layer-end, layer-long}
-use borrow.Author.Rules.{rules}
 use Rattle.vector_store.proofs.rank_top.Goals as goal
 use Rattle.vector_store.proofs.rank_top.Goals.{In-Layer}
 

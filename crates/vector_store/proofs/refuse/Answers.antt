@@ -1,7 +1,6 @@
 -- `vector_store::refuse` meets its contract. Assumes nothing.
 use mathlib.Core.Path.{ap}
 use Rattle.result.specs.declared.ResultSet.{ResultSet}
-use borrow.Author.Rules.{rules}
 use Rattle.vector_store.proofs.refuse.Goals as goal
 
 pub returns : goal.returns

@@ -1,9 +1,7 @@
 -- `vector_store::shape_refusal` meets its contract. Assumes nothing.
 use mathlib.Core.Path.{◌∙◌, sym}
-use borrow.Author.Tests.{not-true, not-false}
 use Rattle.paper.proofs.Geometry.{geo-facts}
 use Rattle.vector_store.specs.Search.{search_shape}
-use borrow.Author.Rules.{rules}
 use Rattle.vector_store.proofs.shape_refusal.Goals as goal
 
 pub returns-then-not-geometry_ok : goal.returns-then-not-geometry_ok

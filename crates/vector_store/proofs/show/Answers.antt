@@ -1,6 +1,5 @@
 -- `vector_store::show` meets its contract. Assumes nothing.
 use Rattle.vector_store.proofs.Cases.{show-refused, show-good}
-use borrow.Author.Rules.{rules}
 use Rattle.vector_store.proofs.show.Goals as goal
 
 pub returns-then-num-ne0 : goal.returns-then-num-ne0

@@ -1,14 +1,7 @@
-use Prim.Native.Nat.{ℕ, ◌+◌, ◌*◌, ◌-◌, ◌≤◌}
-use mathlib.Core.Path.{◌≡◌, ◌∙◌, sym, refl, subst}
-use native.Mathlib.Omega.{arith}
-use native.Mathlib.Nat.{mul-le-mul}
-use borrow.Author.Rules.{rules}
+use Prim.Native.Nat.{◌*◌, ◌-◌, ◌≤◌}
+use mathlib.Core.Path.{◌≡◌}
 use lib.ListN.{length}
-use Rattle.index_memory.proofs.Places.{place}
-use Rattle.bitmaps.specs.Walk.{NextIs}
-use Rattle.bitmaps.specs.declared.Found.TheVariants.{At, Nothing}
 use Rattle.merging.specs.Merging.{copied}
-use Rattle.merging.proofs.Loops.{copy-turn, copy-end}
 use Rattle.merging.proofs.copy_present.Given as goal
 
 abbrev pub invariant-loop-i : goal.invariant-loop-i

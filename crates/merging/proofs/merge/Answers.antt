@@ -3,13 +3,11 @@ use Prim.Native.Nat.{◌≤◌}
 use mathlib.Core.Path.{◌∙◌, sym}
 use native.Mathlib.Omega.{arith}
 use native.Mathlib.Nat.{mul-le-mul}
-use borrow.Author.Tests.{not-true, not-false}
 use Rattle.paper.specs.Geometry.{geo}
 use Rattle.paper.proofs.Geometry.{comp-le}
 use Rattle.index_memory.specs.Memory.{ix_of}
 use Rattle.index_memory.proofs.Lengths.{own-none}
 use Rattle.merging.proofs.Cases.{merge-first, merge-second, merge-shared, merge-done, first-sized, second-sized, copy-args}
-use borrow.Author.Rules.{rules}
 use Rattle.merging.proofs.merge.Goals as goal
 
 pub returns-then-r-ne0 : goal.returns-then-r-ne0

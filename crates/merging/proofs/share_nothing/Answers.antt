@@ -1,5 +1,4 @@
 -- `merging::share_nothing` meets its contract: the words passed share no id, so that the count is that of the words left. Assumes nothing.
-use Prim.Native.Nat.{◌-◌, ◌≤◌}
 use mathlib.Core.Path.{◌≡◌, refl, sym, ◌∙◌}
 use native.Mathlib.Omega.{arith}
 use borrow.Author.Rules.{rules}

@@ -5,7 +5,7 @@ use mathlib.Core.List.{List}
 use Prim.Native.Nat.{ℕ, ◌≤◌}
 use lib.Dec.{leb, eqb}
 use lib.ListN.{length}
-use Rattle.paper.specs.Choice.{◌and◌, pick}
+use Rattle.paper.specs.Choice.{pick}
 use Rattle.paper.specs.Geometry.{geo_ok, cap_ok, mode_ok}
 use Rattle.paper.proofs.Choice.{and_l, and_r}
 use Rattle.records.specs.Fields.{u16_at}

@@ -1,5 +1,5 @@
 -- The cases of a scan, as the call meets them. Assumes nothing.
-use Prim.Native.Nat.{ℕ, ◌*◌}
+use Prim.Native.Nat.{ℕ, ◌*◌, min}
 use native.Mathlib.Omega.{arith}
 use mathlib.Core.Path.{◌≡◌, refl, sym, ap, ◌∙◌, subst}
 use mathlib.Core.Bool.{Bool, true, false}
@@ -15,16 +15,17 @@ use Rattle.index_memory.specs.Memory.{store_ok, slot_bytes}
 use Rattle.index_memory.proofs.Lengths.{store-sized}
 use Rattle.paper.specs.Choice.{pick}
 use Rattle.result.specs.declared.Fed.{Fed}
-use Rattle.result.specs.Ranked.{larger, in_order}
+use Rattle.result.specs.Ranked.{larger, in_order, Outcome}
 use Rattle.result.specs.Sets.{entries_of}
 use Rattle.result.proofs.Keeps.{Sound, sound_empty}
-use Rattle.bitmaps.specs.Words.{size}
+use Rattle.bitmaps.specs.Words.{has, size}
 use Rattle.bitmaps.proofs.Digits.{Words}
-use Rattle.backend_memory.specs.Ranking.{refused, similarity_of, rank_of, nearest_of, RankArgs}
+use Rattle.backend_memory.specs.Ranking.{refused, similarity_of, scored, rank_of, nearest_of, RankArgs}
 use Rattle.backend_memory.specs.Listed.{Each, TrueEntry}
 use Rattle.backend_memory.specs.Scan.{scan_refusal, scan_of}
 use Rattle.backend_memory.proofs.Counts.{nearest-sound, scan-ranks, rank-checked, rank-order}
 use Rattle.backend_memory.proofs.Listed.{rank-listed}
+use Rattle.backend_memory.proofs.Best.{rank-long, rank-best}
 
 not1 : ◌≡◌ {A = ℕ} 1 0 → ⊥
 not1 e = omega arith
@@ -107,3 +108,10 @@ module _ (g : Geo) (ms vs : List ℕ) (t : List Float) (k : ℕ) (e : (scan_of g
 
   pub scan-order : in_order larger (entries_of (scan_of g ms vs t k).set) ≡ true
   scan-order = ap (λ (r : Fed). in_order larger (entries_of r.set)) same ∙ rank-order g.mode k ms ms vs t good
+
+  pub scan-long : length (entries_of (scan_of g ms vs t k).set) ≡ min k (scan_of g ms vs t k).set.checked
+  scan-long = subst (λ (r : Fed). length (entries_of r.set) ≡ min k r.set.checked) (sym same) (rank-long g.mode k ms ms vs t good)
+
+  pub scan-best : (id : ℕ) → has ms id ≡ 1 → Outcome larger k (entries_of (scan_of g ms vs t k).set) (scored (similarity_of g.mode vs t) id)
+  scan-best id h =
+      subst (λ (r : Fed). Outcome larger k (entries_of r.set) (scored (similarity_of g.mode vs t) id)) (sym same) (rank-best g.mode k ms ms vs t good id h)

@@ -2,19 +2,17 @@
 use Prim.Native.Nat.{ℕ, zero, suc, ◌*◌, ◌<◌}
 use native.Mathlib.Omega.{arith}
 use mathlib.Core.Path.{◌≡◌, refl, sym, ap, ◌∙◌, subst}
-use mathlib.Core.Bool.{Bool, true, false}
 use mathlib.Core.List.{List, [], ◌∷◌}
-use lib.Dec.{eqb}
 use lib.Ieee.{Float}
-use lib.ListN.{length, take, get_or}
-use Rattle.paper.specs.Choice.{pick}
-use Rattle.bitmaps.specs.Words.{has, holds}
+use lib.ListN.{length, get_or}
+use Rattle.bitmaps.specs.Words.{has}
 use Rattle.bitmaps.specs.Walk.{ids_in, ids_of, keep}
-use Rattle.result.specs.Ranked.{Entry, larger, placed, stays, fed}
+use Rattle.result.specs.Ranked.{Entry, larger}
 use Rattle.result.specs.Sets.{entries_of, empty_set, fed_set}
 use Rattle.result.specs.declared.ResultSet.{ResultSet}
 use Rattle.result.specs.declared.Fed.{Fed}
 use Rattle.result.proofs.Keeps.{entries-fed, entries_none}
+use Rattle.result.proofs.Outcomes.{each_fed}
 use Rattle.backend_memory.specs.Ranking.{scored, ranking, rank_of, similarity_of}
 use Rattle.backend_memory.specs.Listed.{Each, none, more, TrueEntry}
 use Rattle.backend_memory.proofs.Counts.{first_of}
@@ -26,28 +24,8 @@ each_at P (a ∷ l) d (suc i) (more p ps) h = each_at P l d i ps (omega arith)
 
 -- ---- a feed lists nothing but what was listed and the new entry
 
-module _ (P : Entry → Type 0) (e : Entry) (p : P e) where
-  each_take : (k : ℕ) (es : List Entry) → Each P es → Each P (take k es)
-  each_take zero es q = none
-  each_take (suc k) [] none = none
-  each_take (suc k) (x ∷ es) (more h q) = more h (each_take k es q)
-
-  each-pick : (b : Bool) (xs ys : List Entry) → Each P xs → Each P ys → Each P (pick b xs ys)
-  each-pick true xs ys h g = h
-  each-pick false xs ys h g = g
-
-  each_placed : (before : Float → Float → Bool) (es : List Entry) → Each P es → Each P (placed before e es)
-  each_placed before [] none = more p none
-  each_placed before (x ∷ es) (more h q) =
-      each-pick (eqb x.key e.key) (x ∷ es) _ (more h q)
-      (each-pick (before e.sim x.sim) (e ∷ x ∷ es) (x ∷ placed before e es) (more p (more h q)) (more h (each_placed before es q)))
-
-  each_fed : (before : Float → Float → Bool) (k : ℕ) (es : List Entry) → Each P es → Each P (fed before k e es)
-  unfolding fed
-  each_fed before k es q = each-pick (stays before k e es) es (take k (placed before e es)) q (each_take k (placed before e es) (each_placed before es q))
-
-  each-fed-set : (s : ResultSet) → Each P (entries_of s) → Each P (entries_of (fed_set s e))
-  each-fed-set s q = rw (entries-fed s e) (each_fed larger s.k (entries_of s) q)
+each-fed-set : (P : Entry → Type 0) (e : Entry) → P e → (s : ResultSet) → Each P (entries_of s) → Each P (entries_of (fed_set s e))
+each-fed-set P e p s q = rw (entries-fed s e) (each_fed P e p larger s.k (entries_of s) q)
 
 -- ---- an accepted ranking
 

@@ -1,10 +1,10 @@
 -- The laws of ranking and of the scan, for all inputs. Any lent word is below 2^64, which the counts ask.
-use Rattle.std.specs.Prelude.{ℕ, ◌^◌, ◌<◌, ◌≡◌, true, List, Float, get_or}
+use Rattle.std.specs.Prelude.{ℕ, ◌^◌, ◌<◌, min, ◌≡◌, true, List, Float, length, get_or}
 use Rattle.paper.specs.Geometry.{Geo}
-use Rattle.bitmaps.specs.Words.{size}
-use Rattle.result.specs.Ranked.{larger, in_order}
+use Rattle.bitmaps.specs.Words.{has, size}
+use Rattle.result.specs.Ranked.{larger, in_order, Outcome}
 use Rattle.result.specs.Sets.{entries_of, well_formed}
-use Rattle.backend_memory.specs.Ranking.{similarity_of, rank_of, nearest_of}
+use Rattle.backend_memory.specs.Ranking.{similarity_of, scored, rank_of, nearest_of}
 use Rattle.backend_memory.specs.Scan.{scan_of}
 use Rattle.backend_memory.specs.Listed.{Each, TrueEntry}
 
@@ -18,16 +18,28 @@ pub record Laws : Type 0 where
   -- Scores never rise along the list.
   pub rank-order : (mode k : ℕ) (ids ms vs : List ℕ) (t : List Float) → (rank_of mode k ids ms vs t).refusal ≡ 0
       → in_order larger (entries_of (rank_of mode k ids ms vs t).set) ≡ true
+  -- The list is as long as checked says, and no longer than k.
+  pub rank-long : (mode k : ℕ) (ids ms vs : List ℕ) (t : List Float) → (rank_of mode k ids ms vs t).refusal ≡ 0
+      → length (entries_of (rank_of mode k ids ms vs t).set) ≡ min k (rank_of mode k ids ms vs t).set.checked
+  -- No better id is missed: each id of the ranked set is listed with its score, or the list is full and no listed score is smaller.
+  pub rank-best : (mode k : ℕ) (ids ms vs : List ℕ) (t : List Float) → (rank_of mode k ids ms vs t).refusal ≡ 0
+      → (id : ℕ) → has ids id ≡ 1 → Outcome larger k (entries_of (rank_of mode k ids ms vs t).set) (scored (similarity_of mode vs t) id)
   -- Ranking every present id is the ranking of the marks by themselves: 9 can't come of it.
   pub scan-ranks : (mode k : ℕ) (ms vs : List ℕ) (t : List Float) → rank_of mode k ms ms vs t ≡ nearest_of mode k ms vs t
-  -- The same three for an accepted scan: checked is the number of marks, ..
+  -- The same five for an accepted scan: checked is the number of marks, ..
   pub scan-checked : (g : Geo) (ms vs : List ℕ) (t : List Float) (k : ℕ) → ((i : ℕ) → get_or ms i 0 < 2 ^ 64)
       → (scan_of g ms vs t k).refusal ≡ 0 → (scan_of g ms vs t k).set.checked ≡ size ms
   -- .. each listed id has its mark and the score that its stored bytes give, ..
   pub scan-listed : (g : Geo) (ms vs : List ℕ) (t : List Float) (k : ℕ) → (scan_of g ms vs t k).refusal ≡ 0
       → Each (TrueEntry ms ms (similarity_of g.mode vs t)) (entries_of (scan_of g ms vs t k).set)
-  -- .. and scores never rise along the list.
+  -- .. scores never rise along the list, ..
   pub scan-order : (g : Geo) (ms vs : List ℕ) (t : List Float) (k : ℕ) → (scan_of g ms vs t k).refusal ≡ 0
       → in_order larger (entries_of (scan_of g ms vs t k).set) ≡ true
+  -- .. the list is as long as checked says, and no longer than k, ..
+  pub scan-long : (g : Geo) (ms vs : List ℕ) (t : List Float) (k : ℕ) → (scan_of g ms vs t k).refusal ≡ 0
+      → length (entries_of (scan_of g ms vs t k).set) ≡ min k (scan_of g ms vs t k).set.checked
+  -- .. and no better id is missed: each id that has a mark is listed with its score, or the list is full and no listed score is smaller.
+  pub scan-best : (g : Geo) (ms vs : List ℕ) (t : List Float) (k : ℕ) → (scan_of g ms vs t k).refusal ≡ 0
+      → (id : ℕ) → has ms id ≡ 1 → Outcome larger k (entries_of (scan_of g ms vs t k).set) (scored (similarity_of g.mode vs t) id)
   -- Whatever a scan answers, its set is well formed.
   pub scan-sound : (g : Geo) (ms vs : List ℕ) (t : List Float) (k : ℕ) → well_formed (scan_of g ms vs t k).set ≡ true

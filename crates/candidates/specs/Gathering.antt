@@ -75,7 +75,7 @@ dropped_of n q = dropped_all n q.w (empty (n * q.w)) (unions_from q n 0)
 pub record SpillArgs (lf w : ℕ) (p : List Float) : Type 0 where
   pub w-high : w ≤ 1024
   pub faces : lf ≡ 2 * length p * w
-  pub facable : HasFace p
+  pub has-face : HasFace p
 
 pub record BasisArgs (n lb lf lt lw ll w : ℕ) : Type 0 where
   pub d-low : 1 ≤ lt

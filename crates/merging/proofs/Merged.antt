@@ -11,7 +11,7 @@ use borrow.Author.Tests.{eqb-true}
 use lib.ListN.{length, get_or, take, drop, length-drop}
 use lib.Seq.{sets, length-sets, length-take-le}
 use Rattle.paper.specs.Choice.{◌and◌, pick, refuse}
-use Rattle.paper.specs.Geometry.{Geo, geo_ok}
+use Rattle.paper.specs.Geometry.{Geo, geo_ok, face_words}
 use Rattle.paper.proofs.Choice.{and_l, and_r, refuse-ok, refuse-rest}
 use Rattle.index_memory.specs.Memory.{Ix, own_ok_ix, slot_bytes, stored_at, Sized}
 use Rattle.index_memory.proofs.Lengths.{own-sized}
@@ -20,6 +20,7 @@ use Rattle.index_memory.proofs.Stores.{part-sets, part_same}
 use Rattle.bitmaps.specs.Words.{has, holds, shared, size, is_empty}
 use Rattle.bitmaps.proofs.Digits.{has-union, has-shared}
 use Rattle.bitmaps.proofs.Size.{ones_none}
+use Rattle.bitmaps.proofs.Zip.{by_word-length}
 use Rattle.merging.specs.Merging.{copied, merged_ix, merge_refusal, merge_of}
 
 -- ---- copied slots
@@ -123,6 +124,10 @@ module _ (g : Geo) (a b : Ix) (e : (merge_of g a b).answer ≡ 0) where
 
   second : Sized g.d g.n g.cap g.mode (length b.faces) (length b.marks) (length b.vecs)
   second = own-sized g.d g.n g.cap g.mode _ _ _ tests.0 (and_r (own_ok_ix g a) (own_ok_ix g b) tests.1)
+
+  pub merged-long : length (merge_of g a b).ix.faces ≡ face_words g.d g.n g.cap
+  unfolding merged_ix
+  merged-long = rw after (by_word-length _ a.faces b.faces ∙ first.faces)
 
   pub faces-joined : (k : ℕ) → has (merge_of g a b).ix.faces k ≡ max (has a.faces k) (has b.faces k)
   unfolding merged_ix

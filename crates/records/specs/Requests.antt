@@ -1,5 +1,5 @@
 -- What a record asks for, or its refusal, in the order of 01: the kind (15), the time (1), the body's length (2), the fields (1).
-use Rattle.std.specs.Prelude.{ℕ, ◌+◌, ◌*◌, ◌≤◌, ◌<◌, ◌≡◌, Bool, true, not, List, length, get_or, ltb, leb, eqb}
+use Rattle.std.specs.Prelude.{ℕ, ◌+◌, ◌*◌, ◌≤◌, ◌<◌, ◌≡◌, Bool, true, not, List, [], ◌∷◌, length, get_or, ltb, leb, eqb}
 use Rattle.paper.specs.Choice.{◌and◌, pick}
 use Rattle.paper.specs.Geometry.{geo_ok}
 use Rattle.records.specs.Fields.{u16_at, u32_at}
@@ -50,6 +50,32 @@ kind_of k s g =
 -- a whole record; the first test holds in every run, and lets a session be any five numbers
 unfoldable pub request_of : List ℕ → Session → Request
 request_of s g = demand 1 (within_limits g) (demand 15 (leb 2 (length s)) (kind_of (u16_at s 0) s g))
+
+-- ---- what a request tells
+
+-- the kind of record that each case comes of; 0 is no kind, and stands for a refusal
+abbrev pub request_kind : Request → ℕ
+request_kind (Refuse num) = 0
+request_kind (Geometry d n cap mode) = 1
+request_kind (Basis b) = 2
+request_kind (Add id) = 3
+request_kind (Search k wanted spill) = 5
+
+-- the refusal's number that each case stands for, 0 for none
+abbrev pub request_refusal : Request → ℕ
+request_refusal (Refuse num) = num
+request_refusal (Geometry d n cap mode) = 0
+request_refusal (Basis b) = 0
+request_refusal (Add id) = 0
+request_refusal (Search k wanted spill) = 0
+
+-- the values that each case holds, in their order
+abbrev pub request_values : Request → List ℕ
+request_values (Refuse num) = []
+request_values (Geometry d n cap mode) = d ∷ n ∷ cap ∷ mode ∷ []
+request_values (Basis b) = b ∷ []
+request_values (Add id) = id ∷ []
+request_values (Search k wanted spill) = k ∷ wanted ∷ spill ∷ []
 
 -- ---- what whoever performs a request may count on
 

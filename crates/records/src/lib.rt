@@ -3,6 +3,7 @@
 
 ghost use Rattle.std.specs.Prelude.{◌≡◌, ◌+◌, ◌*◌, ◌<◌};
 ghost use Rattle.records.specs.Requests.{Limits, within_limits, geometry_fits, geometry_of, basis_of, addition_of, search_of, request_of};
+ghost use Rattle.records.specs.Laws.{Laws};
 
 pub mod inner;
 
@@ -160,3 +161,8 @@ pub fn asked(s: &[u8], g: Session) -> Request
         _ => Request::Refuse(15),
     }
 }
+
+// The laws of this crate, claimed: specs/Laws.antt says each of them.
+pub fn laws()
+    ensures { Laws }
+{}

@@ -25,7 +25,7 @@ use Rattle.result.proofs.Sorted.{larger-through}
 
 module _ (before : Float → Float → Bool) (one_way : OneWay before) (through : Through before) where
   -- what b goes before, a goes before, if b does not go before a
-  ahead-too : (x b a : Float) → is_held a ≡ true → before b a ≡ false → before b x ≡ true → before a x ≡ true
+  pub ahead-too : (x b a : Float) → is_held a ≡ true → before b a ≡ false → before b x ≡ true → before a x ≡ true
   ahead-too x b a h p q = go (before a x) refl
     where
       go : (c : Bool) → before a x ≡ c → before a x ≡ true

@@ -69,7 +69,7 @@ module _ (before : Float → Float → Bool) where
   long-pick true xs ys m n h k = h
   long-pick false xs ys m n h k = k
 
-  placed-long : (e : Entry) (es : List Entry) → (length es ≤ length (placed before e es)) × (length (placed before e es) ≤ suc (length es))
+  pub placed-long : (e : Entry) (es : List Entry) → (length es ≤ length (placed before e es)) × (length (placed before e es) ≤ suc (length es))
   placed-long e [] = omega arith
   placed-long e (x ∷ xs) =
       let r = placed-long e xs in
@@ -134,7 +134,7 @@ all-sims [] = refl
 all-sims (e ∷ es) = ap (λ (b : Bool). is_held e.sim and b) (all-sims es)
 
 module _ (before : Float → Float → Bool) (e : Entry) (he : held_e e ≡ true) where
-  placed-all : (es : List Entry) → all_of held_e es ≡ true → all_of held_e (placed before e es) ≡ true
+  pub placed-all : (es : List Entry) → all_of held_e es ≡ true → all_of held_e (placed before e es) ≡ true
   placed-all [] h = all_cons held_e e [] he refl
   placed-all (x ∷ xs) h =
       all-pick held_e (eqb x.key e.key) (x ∷ xs) (pick (before e.sim x.sim) (e ∷ x ∷ xs) (x ∷ placed before e xs)) h

@@ -13,3 +13,4 @@ pub mod Grown
 pub mod Leaves
 pub mod Sorted
 pub mod Closed
+pub mod Outcomes

@@ -54,7 +54,7 @@ module _ (before : Float → Float → Bool) where
   pick-order false xs ys h k = k refl
 
   module _ (one_way : OneWay before) where
-    placed-order : (e : Entry) (es : List Entry) → in_order before es ≡ true → in_order before (placed before e es) ≡ true
+    pub placed-order : (e : Entry) (es : List Entry) → in_order before es ≡ true → in_order before (placed before e es) ≡ true
     unfolding in_order
     placed-order e [] h = refl
     placed-order e (x ∷ xs) h =

@@ -1,8 +1,8 @@
 -- The laws of ranked lists and of result sets, which `laws` claims. The first are over any comparison, with what each asks of it.
-use Rattle.std.specs.Prelude.{ℕ, ◌+◌, ◌<◌, ◌≤◌, Bool, true, false, ◌≡◌, List, Float, length, get_or}
+use Rattle.std.specs.Prelude.{ℕ, ◌+◌, ◌<◌, ◌≤◌, min, Bool, true, false, ◌≡◌, List, [], Float, length, get_or}
 use Rattle.std.specs.Float.Ieee.{lt, is_nan}
-use Rattle.result.specs.Lists.{all_of}
-use Rattle.result.specs.Ranked.{Entry, held_e, larger, stays, fed, fed_list, in_order, OneWay, Through}
+use Rattle.result.specs.Lists.{all_of, Each}
+use Rattle.result.specs.Ranked.{Entry, held_e, larger, stays, fed, fed_list, in_order, Apart, Outcome, OneWay, Through}
 use Rattle.result.specs.Places.{full_above}
 use Rattle.result.specs.Sets.{well_formed, Sound, entries_of, empty_set, fed_set, fed_all, feed_all_of, answer}
 use Rattle.result.specs.Recalls.{told_by}
@@ -23,6 +23,11 @@ pub record Laws : Type 0 where
   -- in a list that is in order no later score goes before an earlier one, however far apart they stand
   pub sorted : (before : Float → Float → Bool) → Through before → (d : Entry) (es : List Entry) (i j : ℕ)
       → in_order before es ≡ true → all_of held_e es ≡ true → i < j → j < length es → before (get_or es j d).sim (get_or es i d).sim ≡ false
+  -- entries of different ids that are fed to an empty list leave as many as they are, and at most k
+  pub fed-list-long : (before : Float → Float → Bool) (k : ℕ) (xs : List Entry) → Apart xs → length (fed_list before k xs []) ≡ min k (length xs)
+  -- none of them is left out but of a full list, and then its score goes before no listed one
+  pub fed-list-best : (before : Float → Float → Bool) → OneWay before → Through before → (k : ℕ) (xs : List Entry)
+      → all_of held_e xs ≡ true → Apart xs → Each (Outcome before k (fed_list before k xs [])) xs
   -- ---- the rule in use, the larger score first, is such a comparison
   pub larger-one-way : OneWay larger
   pub larger-through : Through larger

@@ -2,7 +2,7 @@
 use Rattle.std.specs.Prelude.{ℕ, Bool, true, false, not, ◌≡◌, List, [], ◌∷◌, eqb, take, length, Float}
 use Rattle.std.specs.Float.Ieee.{lt}
 use Rattle.paper.specs.Choice.{◌and◌, pick}
-use Rattle.result.specs.Lists.{is_held}
+use Rattle.result.specs.Lists.{is_held, Each, Some}
 
 -- an id with its score
 pub record Entry : Type 0 where
@@ -49,6 +49,22 @@ unfoldable pub in_order : (Float → Float → Bool) → List Entry → Bool
 in_order before [] = true
 in_order before (x ∷ []) = true
 in_order before (x ∷ y ∷ ys) = not (before y.sim x.sim) and in_order before (y ∷ ys)
+
+-- ---- what becomes of the entries that are fed
+
+-- no listed entry has the entry's id
+abbrev pub NewTo : List Entry → Entry → Type 0
+NewTo es e = Each (λ (x : Entry). x.key ≡ e.key → ⊥) es
+
+-- no two entries have one id
+abbrev pub Apart : List Entry → Type 0
+Apart [] = Unit
+Apart (x ∷ xs) = NewTo xs x × Apart xs
+
+-- What became of an entry that was fed to a list of at most k: it is listed, or it was left out, because the list is full and its score goes before no listed one.
+pub data Outcome (before : Float → Float → Bool) (k : ℕ) (es : List Entry) (e : Entry) : Type 0 where
+  listed : Some (λ (x : Entry). x ≡ e) es → Outcome before k es e
+  left_out : length es ≡ k → Each (λ (x : Entry). before e.sim x.sim ≡ false) es → Outcome before k es e
 
 -- ---- what a comparison has to be for the laws
 

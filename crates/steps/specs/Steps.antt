@@ -3,7 +3,7 @@ use Rattle.std.specs.Prelude.{ℕ, ◌*◌, ◌≡◌, List, ◌++◌, replicate
 use Rattle.std.proofs.lemmas.List.Edits.{sets}
 use Rattle.paper.specs.Choice.{pick}
 use Rattle.records.specs.Fields.{floats_at}
-use Rattle.records.specs.Requests.{request_of}
+use Rattle.records.specs.Requests.{request_refusal, request_of}
 use Rattle.records.specs.declared.Session.{Session}
 use Rattle.records.specs.declared.Request.{Request}
 use Rattle.records.specs.declared.Request.TheVariants.{Refuse, Geometry, Basis, Add, Search}
@@ -68,13 +68,11 @@ perform (Search k wanted spill) s st = (found_text (found_of s st.session k want
 unfoldable pub step_of : List ℕ → State → List ℕ × State
 step_of s st = perform (request_of s st.session) s st
 
--- the number that refuses a record, 0 for none: that of its form or its time, or the call's own
+-- the number that refuses a record, 0 for none: the call's own, or that of the record's form or its time
 abbrev pub refused_by : Request → List ℕ → State → ℕ
-refused_by (Refuse num) s st = num
-refused_by (Geometry d n cap mode) s st = 0
-refused_by (Basis b) s st = 0
 refused_by (Add id) s st = (added_of s st.session id st.memory).0
 refused_by (Search k wanted spill) s st = (found_of s st.session k wanted spill st.memory).refusal
+refused_by q s st = request_refusal q
 
 unfoldable pub refusal_of : List ℕ → State → ℕ
 refusal_of s st = refused_by (request_of s st.session) s st

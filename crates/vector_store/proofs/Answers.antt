@@ -1,5 +1,5 @@
 -- What an accepted search tells: the layer that was chosen, what was checked, what is listed, and that nothing was dropped. Assumes nothing.
-use Prim.Native.Nat.{ℕ, ◌≤◌}
+use Prim.Native.Nat.{ℕ, ◌≤◌, min}
 use native.Mathlib.Omega.{arith}
 use mathlib.Core.Path.{◌≡◌, refl, sym, ap, ◌∙◌, subst}
 use mathlib.Core.Bool.{Bool, true, false}
@@ -9,28 +9,28 @@ use lib.Ieee.{Float}
 use lib.ListN.{length}
 use borrow.Author.Tests.{eqb-true, eqb-false, leb-true}
 use Rattle.paper.specs.Choice.{pick, refuse}
-use Rattle.paper.specs.Geometry.{Geo, set_words}
+use Rattle.paper.specs.Geometry.{Geo}
 use Rattle.paper.proofs.Choice.{refuse-ok}
 use Rattle.index_memory.specs.Memory.{Ix}
-use Rattle.bitmaps.specs.Words.{size}
+use Rattle.bitmaps.specs.Words.{has, size}
 use Rattle.bitmaps.proofs.Digits.{Words}
 use Rattle.counting_bitmap.specs.Layers.{layer}
 use Rattle.counting_bitmap.specs.TopLayer.{top_of, Highest}
 use Rattle.counting_bitmap.specs.declared.Top.{Top}
 use Rattle.counting_bitmap.specs.declared.Top.TheVariants.{Layer, Nothing}
 use Rattle.counting_bitmap.proofs.Highest.{top-layer-is}
-use Rattle.result.specs.Ranked.{larger, in_order}
+use Rattle.result.specs.Ranked.{larger, in_order, Outcome}
 use Rattle.result.specs.Sets.{entries_of, empty_set}
 use Rattle.result.specs.declared.ResultSet.{ResultSet}
 use Rattle.result.specs.declared.Fed.{Fed}
 use Rattle.result.proofs.Keeps.{Sound, sound_empty}
 use Rattle.vector.specs.Finite.{all_finite}
-use Rattle.faces.specs.Slots.{picks_of}
-use Rattle.backend_memory.specs.Ranking.{similarity_of, rank_of}
+use Rattle.backend_memory.specs.Ranking.{similarity_of, scored, rank_of}
 use Rattle.backend_memory.specs.Listed.{Each, TrueEntry}
 use Rattle.backend_memory.proofs.Counts.{rank-checked, rank-order, rank-sound}
 use Rattle.backend_memory.proofs.Listed.{rank-listed}
-use Rattle.candidates.specs.Gathering.{Query, query_of, target_finite, layers_of, dropped_of}
+use Rattle.backend_memory.proofs.Best.{rank-long, rank-best}
+use Rattle.candidates.specs.Gathering.{Query, target_finite, layers_of, dropped_of}
 use Rattle.candidates.proofs.Unions.{search-drops-none}
 use Rattle.candidates.proofs.Words.{layer-words}
 use Rattle.vector_store.specs.Search.{AcceptedSearch, searched_by, refused, ranked_by, top_rank_of, found_of, Work, searched, cleared, search_shape, search_refusal, search_of}
@@ -86,6 +86,18 @@ module _ (n mode k sk : ℕ) (q : Query) (ms vs : List ℕ) where
     found-order =
         ap (λ (s : ResultSet). in_order larger (entries_of s)) a.ranked
         ∙ rank-order mode k (layer q.w (layers_of n q) a.at) ms vs q.target a.good
+
+    -- the list is as long as checked says, and no longer than k
+    pub found-long : length (entries_of r.set) ≡ min k r.set.checked
+    found-long =
+        subst (λ (s : ResultSet). length (entries_of s) ≡ min k s.checked) (sym a.ranked)
+        (rank-long mode k (layer q.w (layers_of n q) a.at) ms vs q.target a.good)
+
+    -- each id of the chosen layer is listed with its score, or left out of a full list that its score goes nowhere in
+    pub found-best : (id : ℕ) → has (layer q.w (layers_of n q) a.at) id ≡ 1 → Outcome larger k (entries_of r.set) (scored (similarity_of mode vs q.target) id)
+    found-best id h =
+        subst (λ (s : ResultSet). Outcome larger k (entries_of s) (scored (similarity_of mode vs q.target) id)) (sym a.ranked)
+        (rank-best mode k (layer q.w (layers_of n q) a.at) ms vs q.target a.good id h)
 
 pub search-accepted : (g : Geo) (bs : List Float) (ix : Ix) (t : List Float) (k sk spill : ℕ) (m : Work) → (search_of g bs ix t k sk spill m).answer.refusal ≡ 0
     → AcceptedSearch g.n g.mode k sk (searched_by g bs ix t spill) ix.marks ix.vecs (search_of g bs ix t k sk spill m).answer

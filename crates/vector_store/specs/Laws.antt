@@ -1,13 +1,13 @@
 -- The laws of an accepted search, for all inputs. Any lent word is below 2^64, which the count asks.
-use Rattle.std.specs.Prelude.{ℕ, ◌^◌, ◌<◌, ◌≡◌, true, List, Float, get_or}
+use Rattle.std.specs.Prelude.{ℕ, ◌^◌, ◌<◌, min, ◌≡◌, true, List, Float, length, get_or}
 use Rattle.paper.specs.Geometry.{Geo}
 use Rattle.index_memory.specs.Memory.{Ix}
-use Rattle.bitmaps.specs.Words.{size}
+use Rattle.bitmaps.specs.Words.{has, size}
 use Rattle.counting_bitmap.specs.Layers.{layer}
 use Rattle.counting_bitmap.specs.TopLayer.{Highest}
-use Rattle.result.specs.Ranked.{larger, in_order}
+use Rattle.result.specs.Ranked.{larger, in_order, Outcome}
 use Rattle.result.specs.Sets.{entries_of, well_formed}
-use Rattle.backend_memory.specs.Ranking.{similarity_of}
+use Rattle.backend_memory.specs.Ranking.{similarity_of, scored}
 use Rattle.backend_memory.specs.Listed.{Each, TrueEntry}
 use Rattle.candidates.specs.Gathering.{Query, layers_of}
 use Rattle.vector_store.specs.Search.{Work, searched_by, search_of, AcceptedSearch}
@@ -29,6 +29,12 @@ pub record Laws : Type 0 where
   -- Scores never rise along the list.
   pub found-order : (n mode k sk : ℕ) (q : Query) (ms vs : List ℕ) (r : Nearest) (a : AcceptedSearch n mode k sk q ms vs r)
       → in_order larger (entries_of r.set) ≡ true
+  -- The list is as long as checked says, and no longer than k.
+  pub found-long : (n mode k sk : ℕ) (q : Query) (ms vs : List ℕ) (r : Nearest) (a : AcceptedSearch n mode k sk q ms vs r)
+      → length (entries_of r.set) ≡ min k r.set.checked
+  -- No better candidate is missed: each id of the chosen layer is listed with its score, or the list is full and no listed score is smaller.
+  pub found-best : (n mode k sk : ℕ) (q : Query) (ms vs : List ℕ) (r : Nearest) (a : AcceptedSearch n mode k sk q ms vs r)
+      → (id : ℕ) → has (layer q.w (layers_of n q) a.at) id ≡ 1 → Outcome larger k (entries_of r.set) (scored (similarity_of mode vs q.target) id)
   -- Whatever a search answers, its set is well formed.
   pub search-sound : (g : Geo) (bs : List Float) (ix : Ix) (t : List Float) (k sk spill : ℕ) (m : Work)
       → well_formed (search_of g bs ix t k sk spill m).answer.set ≡ true

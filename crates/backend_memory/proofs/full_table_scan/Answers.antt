@@ -2,7 +2,6 @@
 use mathlib.Core.Path.{◌∙◌, sym}
 use Rattle.paper.specs.Geometry.{geo}
 use Rattle.backend_memory.proofs.Cases.{scan-refused, scan-done, scan-args}
-use borrow.Author.Rules.{rules}
 use Rattle.backend_memory.proofs.full_table_scan.Goals as goal
 
 pub returns-then-num-ne0 : goal.returns-then-num-ne0

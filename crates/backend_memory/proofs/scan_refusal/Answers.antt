@@ -3,7 +3,6 @@ use mathlib.Core.Path.{◌∙◌, sym}
 use borrow.Author.Tests.{le-leb, lt-leb, eq-eqb, ne_eqb}
 use Rattle.paper.proofs.Geometry.{geo-facts}
 use Rattle.backend_memory.specs.Scan.{scan_refusal}
-use borrow.Author.Rules.{rules}
 use Rattle.backend_memory.proofs.scan_refusal.Goals as goal
 
 pub returns-then-not-geometry_ok : goal.returns-then-not-geometry_ok

@@ -4,6 +4,7 @@ use Rattle.result.proofs.Keeps.{fed-long, entries-fed, keeps}
 use Rattle.result.proofs.Grown.{all-checked, all-entries, all-accepted, grown-sound}
 use Rattle.result.proofs.Sorted.{sorted, larger-through, grown-sorted}
 use Rattle.result.proofs.Closed.{fed-closed, closed-stays}
+use Rattle.result.proofs.Outcomes.{fed-list-long, fed-list-best}
 use Rattle.result.proofs.Recalls.{told-apart}
 use Rattle.result.proofs.laws.Goals as goal
 
@@ -13,6 +14,8 @@ returns c = record {
   fed-long = fed-long;
   fed-closed = fed-closed;
   sorted = sorted;
+  fed-list-long = fed-list-long;
+  fed-list-best = fed-list-best;
   larger-one-way = larger-one-way;
   larger-through = larger-through;
   entries-fed = entries-fed;

@@ -1,5 +1,4 @@
 -- `backend_memory::inner::compute_similarity` meets its contract. Assumes nothing.
-use borrow.Author.Rules.{rules}
 use Rattle.backend_memory.proofs.inner.compute_similarity.Goals as goal
 
 pub returns : goal.returns

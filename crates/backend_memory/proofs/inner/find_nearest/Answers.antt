@@ -1,7 +1,6 @@
 -- `backend_memory::inner::find_nearest` meets its contract: ranking the marks by themselves asks for no mark. Assumes nothing.
 use mathlib.Core.Path.{◌∙◌}
 use Rattle.backend_memory.proofs.Counts.{scan-ranks}
-use borrow.Author.Rules.{rules}
 use Rattle.backend_memory.proofs.inner.find_nearest.Goals as goal
 
 pub returns : goal.returns

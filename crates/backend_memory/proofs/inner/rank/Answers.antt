@@ -2,7 +2,7 @@
 use borrow.Author.Rules.{rules}
 use native.Mathlib.Omega.{arith}
 use native.Mathlib.Nat.{mul-le-mul}
-use Prim.Native.Nat.{ℕ, ◌≤◌, ◌<◌, ◌-◌, ◌*◌, ◌+◌}
+use Prim.Native.Nat.{ℕ, ◌≤◌, ◌<◌, ◌*◌, ◌+◌}
 use mathlib.Core.Path.{◌≡◌, ◌∙◌, ap, sym, subst}
 use mathlib.Core.Bool.{true, false}
 use lib.Ieee.{Float, is_nan, binary32, of_bits}
@@ -24,7 +24,7 @@ use Rattle.result.proofs.Answers.{recount}
 use Rattle.result.proofs.Closed.{order-fed, closed-stays}
 use Rattle.result.proofs.Keeps.{entries_none, Sound, sound_empty, sound-fed, closed-counted, fed-within}
 use Rattle.backend_memory.specs.Ranking.{scored, ranking, rank_of, similarity_of}
-use Rattle.backend_memory.proofs.Turns.{ended, no-mark, bad-score, one-fed, score-is, ClosedBelow, bar-closes, bar-raised, closed-number}
+use Rattle.backend_memory.proofs.Turns.{ended, no-mark, bad-score, one-fed, score-is, bar-closes, bar-raised, closed-number}
 use Rattle.backend_memory.proofs.inner.rank.Goals as goal
 use Rattle.backend_memory.proofs.inner.rank.Goals.{In-At}
 

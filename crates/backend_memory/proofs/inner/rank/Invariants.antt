@@ -1,29 +1,14 @@
-use borrow.Author.Rules.{rules}
-use native.Mathlib.Omega.{arith}
-use native.Mathlib.Nat.{mul-le-mul}
-use Prim.Native.Nat.{ℕ, ◌≤◌, ◌<◌, ◌-◌, ◌*◌, ◌+◌}
-use mathlib.Core.Path.{◌≡◌, ◌∙◌, ap, sym, subst}
-use mathlib.Core.Bool.{true, false}
-use lib.Ieee.{Float, is_nan, binary32, of_bits}
+use Prim.Native.Nat.{◌≤◌, ◌-◌, ◌*◌}
+use mathlib.Core.Path.{◌≡◌}
+use mathlib.Core.Bool.{true}
 use lib.ListN.{length}
-use Rattle.paper.proofs.Geometry.{comp-le}
-use Rattle.index_memory.specs.Memory.{slot_bytes}
-use Rattle.index_memory.proofs.Places.{place}
-use Rattle.bitmaps.specs.Walk.{NextIs, ids_from}
-use Rattle.bitmaps.proofs.Ids.{walk-start}
-use Rattle.bitmaps.specs.declared.Found.TheVariants.{At, Nothing}
-use Rattle.sqrt.specs.RootOf.{root_of, root}
-use Rattle.result.specs.Ranked.{entry, larger, in_order}
-use Rattle.result.specs.Places.{full_above}
+use Rattle.bitmaps.specs.Walk.{ids_from}
+use Rattle.result.specs.Ranked.{larger, in_order}
 use Rattle.result.specs.Puts.{set_of}
-use Rattle.result.specs.Sets.{entries_of, empty_set, fed_set, counted}
-use Rattle.result.specs.declared.ResultSet.{ResultSet}
-use Rattle.result.proofs.Tests.{is-nan, no_nan}
-use Rattle.result.proofs.Answers.{recount}
-use Rattle.result.proofs.Closed.{order-fed, closed-stays}
-use Rattle.result.proofs.Keeps.{entries_none, Sound, sound_empty, sound-fed, closed-counted, fed-within}
-use Rattle.backend_memory.specs.Ranking.{scored, ranking, rank_of, similarity_of}
-use Rattle.backend_memory.proofs.Turns.{ended, no-mark, bad-score, one-fed, score-is, ClosedBelow, bar-closes, bar-raised, closed-number}
+use Rattle.result.specs.Sets.{entries_of}
+use Rattle.result.proofs.Keeps.{Sound}
+use Rattle.backend_memory.specs.Ranking.{ranking, rank_of, similarity_of}
+use Rattle.backend_memory.proofs.Turns.{ClosedBelow}
 use Rattle.backend_memory.proofs.inner.rank.Given as goal
 
 abbrev pub invariant-loop-id : goal.invariant-loop-id

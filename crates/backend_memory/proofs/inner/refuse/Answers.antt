@@ -1,7 +1,6 @@
 -- `backend_memory::inner::refuse` meets its contract. Assumes nothing.
 use mathlib.Core.Path.{ap}
 use Rattle.result.specs.Sets.{answer}
-use borrow.Author.Rules.{rules}
 use Rattle.backend_memory.proofs.inner.refuse.Goals as goal
 
 pub returns : goal.returns

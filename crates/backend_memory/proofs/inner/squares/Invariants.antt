@@ -1,14 +1,9 @@
-use borrow.Author.Rules.{rules}
-use native.Mathlib.Omega.{arith}
-use native.Mathlib.Nat.{zero-mul}
-use Prim.Native.Nat.{ℕ, ◌+◌, ◌-◌, ◌*◌, ◌≤◌}
-use mathlib.Core.Path.{◌≡◌, sym, ◌∙◌, ap}
-use lib.ListN.{length, drop, get_or}
-use lib.Ieee.{Float, nan}
+use Prim.Native.Nat.{◌+◌, ◌-◌, ◌*◌, ◌≤◌}
+use mathlib.Core.Path.{◌≡◌}
+use lib.ListN.{length, drop}
 use Rattle.paper.specs.Geometry.{comp_size}
 use Rattle.vector.specs.Fold.{fold2, dist_step, squares_of}
 use Rattle.quantization.specs.Stored.{components}
-use Rattle.backend_memory.proofs.Squares.{within, next_place, squares-start, squares-step, squares-end}
 use Rattle.backend_memory.proofs.inner.squares.Given as goal
 
 abbrev pub invariant-loop-i : goal.invariant-loop-i

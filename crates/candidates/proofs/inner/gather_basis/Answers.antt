@@ -24,7 +24,7 @@ spill_into-requires c =
     record {
       w-high = omega (arith, c.requires.w-high, c.clear.auto.a);
       faces = times-by (length a.faces.now) (2 * length a.target.now) (length a.set.now) (2 * length c.project.new.work) (length c.clear.new.a) c.requires.faces (ap (λ (d : ℕ). 2 * d) long) c.clear.auto.a;
-      facable = record { some = omega (arith, c.requires.d-low, long); few = omega (arith, c.requires.d-high, long); finite = sym c.all_finite.ensures ∙ c.if-not-all_finite.false };
+      has-face = record { some = omega (arith, c.requires.d-low, long); few = omega (arith, c.requires.d-high, long); finite = sym c.all_finite.ensures ∙ c.if-not-all_finite.false };
     }
 
 pub merge-requires : goal.merge-requires

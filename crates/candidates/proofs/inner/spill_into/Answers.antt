@@ -3,7 +3,6 @@ use borrow.Author.Rules.{rules}
 use native.Mathlib.Omega.{arith}
 use Prim.Native.Nat.{◌≤◌, ◌<◌, ◌-◌, ◌*◌, ◌+◌}
 use mathlib.Core.Path.{◌≡◌, refl, ◌∙◌, ap, sym}
-use mathlib.Core.Bool.{true}
 use lib.ListN.{length, take, drop}
 use Rattle.index_memory.proofs.Places.{part_end, part-long}
 use Rattle.vector.specs.Finite.{all_finite}
@@ -15,10 +14,10 @@ use Rattle.candidates.proofs.inner.spill_into.Goals.{After-pick-slot}
 pub loop-i-init : goal.loop-i-init
 loop-i-init c =
     let e : c.args.picks - 0 ≡ c.args.picks = omega arith in
-    (search rules, search rules, search rules, c.requires.facable.finite, rw e)
+    (search rules, search rules, search rules, c.requires.has-face.finite, rw e)
 
 pub pick-slot-requires : goal.pick-slot-requires
-pick-slot-requires c = record { some = omega (arith, c.requires.facable.some, c.loop-i.invariant.1); few = omega (arith, c.requires.facable.few, c.loop-i.invariant.1); finite = c.loop-i.invariant.3 }
+pick-slot-requires c = record { some = omega (arith, c.requires.has-face.some, c.loop-i.invariant.1); few = omega (arith, c.requires.has-face.few, c.loop-i.invariant.1); finite = c.loop-i.invariant.3 }
 
 -- the slot is one of the basis's
 slot-low : (c : After-pick-slot) → c.pick-slot.result < 2 * length c.args.work.now

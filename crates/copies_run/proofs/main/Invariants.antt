@@ -1,4 +1,3 @@
-use borrow.Author.Rules.{rules}
 use Prim.Native.Nat.{◌≤◌}
 use Rattle.copies_run.proofs.main.Given as goal
 

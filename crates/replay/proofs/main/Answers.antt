@@ -1,7 +1,5 @@
 -- `main` is safe and ends. Assumes nothing.
-use borrow.Author.Rules.{rules}
-use mathlib.Core.Path.{◌≡◌, refl, sym, ◌∙◌}
-use lib.ListN.{length}
+use mathlib.Core.Path.{refl, sym, ◌∙◌}
 use Rattle.replay.proofs.main.Goals as goal
 
 pub loop-left-init : goal.loop-left-init

@@ -1,7 +1,5 @@
 -- `vector_run::main` meets its contract. Assumes nothing.
-use borrow.Author.Rules.{rules}
-use mathlib.Core.Path.{◌≡◌, refl, sym, ◌∙◌}
-use lib.ListN.{length}
+use mathlib.Core.Path.{refl, sym, ◌∙◌}
 use Rattle.vector_run.proofs.main.Goals as goal
 
 pub loop-turns-init : goal.loop-turns-init

@@ -3,7 +3,6 @@ use mathlib.Core.Path.{◌∙◌, ap}
 use lib.IntN.{nat_abs}
 use mir.Syntax.{w32}
 use mir.ValLaws.{to_z-of_z}
-use borrow.Author.Rules.{rules}
 use Rattle.vector_run.proofs.put_face.Goals as goal
 
 pub returns : goal.returns

@@ -1,4 +1,3 @@
-use borrow.Author.Rules.{rules}
 use Prim.Native.Nat.{◌≤◌}
 use Rattle.recorded.proofs.inner.number.Given as goal
 

@@ -1,5 +1,4 @@
 -- `component` is safe and ends, and meets its contract. Assumes nothing.
-use Rattle.std.proofs.Common.{rules}
 use Rattle.replay_drawing.proofs.inner.component.Goals as goal
 
 pub returns : goal.returns

@@ -1,6 +1,5 @@
 -- `digest_bytes` is safe and ends, and meets its contract. Assumes nothing.
-use Rattle.std.proofs.Common.{◌≡◌, ◌-◌, ◌<◌, ◌≤◌, length, drop, sym, refl, ◌∙◌, arith, rules}
-use Rattle.replay_drawing.specs.Digests.{digest_of}
+use Rattle.std.proofs.Common.{◌<◌, ◌≤◌, length, sym, refl, ◌∙◌, arith, rules}
 use Rattle.replay_drawing.proofs.Turns.{bytes-turn, bytes-end}
 use Rattle.replay_drawing.proofs.inner.digest_bytes.Goals as goal
 

@@ -1,6 +1,5 @@
-use Rattle.std.proofs.Common.{◌≡◌, ◌-◌, ◌<◌, ◌≤◌, length, drop, sym, refl, ◌∙◌, arith, rules}
+use Rattle.std.proofs.Common.{◌≡◌, ◌-◌, ◌≤◌, length, drop}
 use Rattle.replay_drawing.specs.Digests.{digest_of}
-use Rattle.replay_drawing.proofs.Turns.{bytes-turn, bytes-end}
 use Rattle.replay_drawing.proofs.inner.digest_bytes.Given as goal
 
 abbrev pub invariant-loop-i : goal.invariant-loop-i

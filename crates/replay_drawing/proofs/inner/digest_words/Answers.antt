@@ -1,6 +1,5 @@
 -- `digest_words` is safe and ends, and meets its contract. Assumes nothing.
-use Rattle.std.proofs.Common.{◌≡◌, ◌-◌, ◌<◌, ◌≤◌, length, drop, sym, refl, ◌∙◌, arith, rules}
-use Rattle.replay_drawing.specs.Digests.{digest_of, halves}
+use Rattle.std.proofs.Common.{◌<◌, ◌≤◌, length, sym, refl, ◌∙◌, arith, rules}
 use Rattle.replay_drawing.proofs.Turns.{words-turn, words-end}
 use Rattle.replay_drawing.proofs.inner.digest_words.Goals as goal
 

@@ -1,6 +1,5 @@
-use Rattle.std.proofs.Common.{◌≡◌, ◌-◌, ◌<◌, ◌≤◌, length, drop, sym, refl, ◌∙◌, arith, rules}
+use Rattle.std.proofs.Common.{◌≡◌, ◌-◌, ◌≤◌, length, drop}
 use Rattle.replay_drawing.specs.Digests.{digest_of, halves}
-use Rattle.replay_drawing.proofs.Turns.{words-turn, words-end}
 use Rattle.replay_drawing.proofs.inner.digest_words.Given as goal
 
 abbrev pub invariant-loop-i : goal.invariant-loop-i

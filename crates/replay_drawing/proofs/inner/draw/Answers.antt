@@ -1,7 +1,6 @@
 -- `draw` is safe and ends, and meets its contract. Assumes nothing.
-use Rattle.std.proofs.Common.{◌≡◌, ◌+◌, ◌-◌, ◌<◌, ◌≤◌, ◌++◌, length, take, sym, refl, ◌∙◌, arith, length-set, rules}
+use Rattle.std.proofs.Common.{◌<◌, ◌≤◌, length, sym, refl, ◌∙◌, arith, length-set, rules}
 use native.Mathlib.Nat.{sub-zero}
-use Rattle.replay_drawing.specs.Draws.{components_of, after_draws}
 use Rattle.replay_drawing.proofs.Turns.{draws-turn, draws-end, place-turn, place_end}
 use Rattle.replay_drawing.proofs.inner.draw.Goals as goal
 

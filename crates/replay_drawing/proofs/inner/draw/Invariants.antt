@@ -1,7 +1,5 @@
-use Rattle.std.proofs.Common.{◌≡◌, ◌+◌, ◌-◌, ◌<◌, ◌≤◌, ◌++◌, length, take, sym, refl, ◌∙◌, arith, length-set, rules}
-use native.Mathlib.Nat.{sub-zero}
+use Rattle.std.proofs.Common.{◌≡◌, ◌-◌, ◌≤◌, ◌++◌, length, take}
 use Rattle.replay_drawing.specs.Draws.{components_of, after_draws}
-use Rattle.replay_drawing.proofs.Turns.{draws-turn, draws-end, place-turn, place_end}
 use Rattle.replay_drawing.proofs.inner.draw.Given as goal
 
 abbrev pub invariant-loop-i : goal.invariant-loop-i

@@ -1,4 +1,4 @@
-use Rattle.std.proofs.Common.{◌≡◌, ◌-◌, ◌≤◌, length, rules}
+use Rattle.std.proofs.Common.{◌≡◌, ◌-◌, ◌≤◌, length}
 use Rattle.replay_drawing.proofs.inner.draw_bases.Given as goal
 
 abbrev pub invariant-loop-b : goal.invariant-loop-b

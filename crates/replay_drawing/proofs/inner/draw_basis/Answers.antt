@@ -1,5 +1,5 @@
 -- `draw_basis` is safe and ends, and meets its contract. Assumes nothing.
-use Rattle.std.proofs.Common.{List, ap, ◌∙◌, rules}
+use Rattle.std.proofs.Common.{List, ap, ◌∙◌}
 use lib.Ieee.{Float}
 use Rattle.ortho.specs.Ortho.{orthonormalized}
 use Rattle.replay_drawing.proofs.inner.draw_basis.Goals as goal

@@ -1,5 +1,5 @@
 -- `id_of` is safe and ends, and meets its contract. Assumes nothing.
-use Rattle.std.proofs.Common.{rules, eq-eqb, ne_eqb}
+use Rattle.std.proofs.Common.{eq-eqb, ne_eqb}
 use Rattle.replay_drawing.specs.Draws.{id_of}
 use Rattle.replay_drawing.proofs.inner.id_of.Goals as goal
 

@@ -154,6 +154,28 @@ class Library(unittest.TestCase):
         self.assertEqual(sorted(c for c in listed_crates() if c.startswith("capi_")), sorted(joined))
 
 
+class GateTable(unittest.TestCase):
+    def test_wrong_use_is_told(self):
+        done = subprocess.run([ROOT / "tools" / "gate-table", "paper", "nothing"], capture_output=True, text=True)
+        self.assertEqual((2, "", "gate-table: there is no crate nothing\n"), (done.returncode, done.stdout, done.stderr))
+
+    def test_measures_and_adds_up(self):
+        """With a made-up toolchain that proves at once."""
+        with tempfile.TemporaryDirectory() as room:
+            for name in ("rt", "bin/rattle"):
+                program = pathlib.Path(room) / name
+                program.parent.mkdir(exist_ok=True)
+                program.write_text(f"#!/bin/sh\n[ \"$1\" != doc ] || echo {room}/GUIDE.md\n", encoding="utf-8")
+                program.chmod(0o755)
+            env = {**os.environ, "PATH": f"{room}:{os.environ['PATH']}"}
+            done = subprocess.run([ROOT / "tools" / "gate-table", "paper", "sqrt"], capture_output=True, text=True, env=env)
+        counts = {crate: [len(list((ROOT / "crates" / crate / folder).glob("*.edit"))) for folder in ("must-fail", "tried")] for crate in ("paper", "sqrt")}
+        rows = [re.findall(r"[^|]+", line) for line in done.stdout.splitlines()[2:]]
+        for row in rows[:2]:
+            self.assertEqual(counts[row[0].strip()], [int(row[2]), int(row[4])])
+        self.assertEqual(("in all (2 crates)", sum(it[0] for it in counts.values())), (rows[2][0].strip(), int(rows[2][2])))
+
+
 class Tried(unittest.TestCase):
     """tools/tried, with a made-up rt that says what the true one would."""
 

@@ -195,7 +195,7 @@ root-nearest x f = record {
   nearest = λ n h v. nearest-root x n f h v;
   infinity = λ e. ap root e ∙ root-infinity ∙ sym e;
   negatives = λ n h v. negative-root x n f h v;
-  below_all = λ e. ap root e ∙ minus-infinity;
+  below-all = λ e. ap root e ∙ minus-infinity;
   nans = λ e. ap root e ∙ root-nan;
 }
 

@@ -552,20 +552,14 @@ class Building(Sentences):
         self.assertEqual((ran.returncode, ran.stdout, ran.stderr), (0, b'emulated\nrecords', b''))
 
     def test_a_program_that_fails(self):
+        """With python3 and without it."""
         self.toolchain()
         self.search('--records')
         for text, part in [('exit 3', 'the program ended with status 3'), ('kill -9 $$', 'the program was ended by signal 9')]:
             with open(self.path('project', 'crates', 'search', 'out', 'search'), 'w') as f:
                 f.write(f'#!/bin/sh\n{text}\n')
-            self.told(self.search('--records', data=b'records'), 1, part)
-
-    def test_a_program_that_fails_without_python(self):
-        self.toolchain()
-        self.search('--records')
-        for text, part in [('exit 3', 'the program ended with status 3'), ('kill -9 $$', 'the program was ended by signal 9')]:
-            with open(self.path('project', 'crates', 'search', 'out', 'search'), 'w') as f:
-                f.write(f'#!/bin/sh\n{text}\n')
-            self.told(self.search('--records', data=b'records' * 100000, path=self.tools()), 1, part)
+            for path in (None, self.tools()):
+                self.told(self.search('--records', data=b'records' * 100000, path=path), 1, part)
 
     def test_an_input_that_cannot_be_read_without_python(self):
         self.toolchain()

@@ -8,6 +8,7 @@ import unittest
 
 ROOT = pathlib.Path(__file__).resolve().parent.parent
 LEDGER = (ROOT / "docs" / "PROMISES.md").read_text(encoding="utf-8")
+RUST_LEFT_OUT = {"dot_product_non_optimized", "euclidean_distance", "iter_results", "load_all_bitmaps", "print_basis", "subtract_into"}
 
 
 def listed_crates():
@@ -73,13 +74,18 @@ class Laws(unittest.TestCase):
     def test_the_ledger_names_every_law_and_no_other(self):
         self.assertEqual({crate: sorted(fields) for crate, fields in laws().items()}, {crate: sorted(fields) for crate, fields in law_rows().items()})
 
-    def test_names_that_documents_give_to_laws_are_fields(self):
-        """A name in backquotes with a hyphen and no other mark, in a page of the auditor's, is a law: nothing else here is written so."""
-        there = {field for fields in laws().values() for field in fields}
+    def test_names_that_documents_give_are_there(self):
+        """A name in backquotes with an underscore and no other mark, in a page of the auditor's, is one of the code or of a definition, a law's among
+        them, or a crate's, or of the Rust that was left out (DIFFERENCES)."""
+        there = set(listed_crates()) | RUST_LEFT_OUT
+        for crate in listed_crates():
+            for folder in ("src", "specs"):
+                for path in (ROOT / "crates" / crate / folder).glob("*.*"):
+                    there |= set(re.findall(r"[A-Za-z]\w*", path.read_text(encoding="utf-8")))
         for page in ("PROMISES.md", "RULES.md", "DECISIONS.md", "DIFFERENCES.md"):
             text = (ROOT / "docs" / page).read_text(encoding="utf-8")
             with self.subTest(page=page):
-                self.assertEqual([], sorted(set(re.findall(r"`([a-z]+(?:-[a-z]+)+)`", text)) - there))
+                self.assertEqual([], sorted(set(re.findall(r"`([a-z]\w*_\w+)`", text)) - there))
 
 
 class Ledger(unittest.TestCase):

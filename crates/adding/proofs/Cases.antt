@@ -15,56 +15,56 @@ use Rattle.vector.specs.Finite.{all_finite}
 use Rattle.vector.specs.Norm.{norm_number}
 use Rattle.basis.specs.Bases.{projections_finite}
 use Rattle.adding.specs.Adding.{face_slot, added_ix, written_ix, lengths_ok, add_shape, late_refusal, add_refusal, added, work_after, add_of, SlotsAre}
-use Rattle.adding.proofs.Shape.{shape-high}
-use Rattle.adding.proofs.Turns.{with-same}
+use Rattle.adding.proofs.Shape.{shape_high}
+use Rattle.adding.proofs.Turns.{with_same}
 
 -- ---- the slots
 
 module _ (d n : ℕ) (bs v : List Float) (slots : List ℕ) where
-  pub slots-refused : projections_finite d bs v n ≡ false → SlotsAre d n bs v (record { refusal = 7; slots = slots })
-  slots-refused e = record { answer = rw e; slots = λ (z : ◌≡◌ {A = ℕ} 7 0). absurd (omega arith) }
+  pub slots_refused : projections_finite d bs v n ≡ false → SlotsAre d n bs v (record { refusal = 7; slots = slots })
+  slots_refused e = record { answer = rw e; slots = λ (z : ◌≡◌ {A = ℕ} 7 0). absurd (omega arith) }
 
-  pub slots-found : projections_finite d bs v n ≡ true → ((b : ℕ) → b < n → get_or slots b 0 ≡ face_slot d bs v b) → SlotsAre d n bs v (record { refusal = 0; slots = slots })
-  slots-found e h = record { answer = rw e; slots = λ z. h }
+  pub slots_found : projections_finite d bs v n ≡ true → ((b : ℕ) → b < n → get_or slots b 0 ≡ face_slot d bs v b) → SlotsAre d n bs v (record { refusal = 0; slots = slots })
+  slots_found e h = record { answer = rw e; slots = λ z. h }
 
 -- ---- 6, 7 and the addition
 
 module _ (d n : ℕ) (bs v : List Float) where
-  pub late-six : (r : ℕ) → r ≡ norm_number v → (r ≡ 0 → ⊥) → 6 ≡ late_refusal d n bs v
+  pub late_six : (r : ℕ) → r ≡ norm_number v → (r ≡ 0 → ⊥) → 6 ≡ late_refusal d n bs v
   unfolding late_refusal
-  late-six r e h = rw (ne_eqb (norm_number v) 0 (λ z. h (e ∙ z)))
+  late_six r e h = rw (ne_eqb (norm_number v) 0 (λ z. h (e ∙ z)))
 
-  pub late-seven : norm_number v ≡ 0 → projections_finite d bs v n ≡ false → 7 ≡ late_refusal d n bs v
+  pub late_seven : norm_number v ≡ 0 → projections_finite d bs v n ≡ false → 7 ≡ late_refusal d n bs v
   unfolding late_refusal
-  late-seven e p = rw (eq-eqb (norm_number v) 0 e, p)
+  late_seven e p = rw (eq-eqb (norm_number v) 0 e, p)
 
-  pub late-none : norm_number v ≡ 0 → projections_finite d bs v n ≡ true → 0 ≡ late_refusal d n bs v
+  pub late_none : norm_number v ≡ 0 → projections_finite d bs v n ≡ true → 0 ≡ late_refusal d n bs v
   unfolding late_refusal
-  late-none e p = rw (eq-eqb (norm_number v) 0 e, p)
+  late_none e p = rw (eq-eqb (norm_number v) 0 e, p)
 
-pub was-finite : (b : Bool) (r : ℕ) → r ≡ pick b 0 7 → r ≡ 0 → b ≡ true
-was-finite true r e z = refl
-was-finite false r e z = absurd (omega arith)
+pub was_finite : (b : Bool) (r : ℕ) → r ≡ pick b 0 7 → r ≡ 0 → b ≡ true
+was_finite true r e z = refl
+was_finite false r e z = absurd (omega arith)
 
-pub was-not : (b : Bool) (r : ℕ) → r ≡ pick b 0 7 → (r ≡ 0 → ⊥) → b ≡ false
-was-not true r e z = absurd (z e)
-was-not false r e z = refl
+pub was_not : (b : Bool) (r : ℕ) → r ≡ pick b 0 7 → (r ≡ 0 → ⊥) → b ≡ false
+was_not true r e z = absurd (z e)
+was_not false r e z = refl
 
 pub written_is : (g : Geo) (bs : List Float) (id : ℕ) (v : List Float) (ix ix' : Ix) (slots : List ℕ)
     → ix' ≡ written_ix g (λ b. get_or slots b 0) id v ix → ((b : ℕ) → b < g.n → get_or slots b 0 ≡ face_slot g.d bs v b) → ix' ≡ added_ix g bs id v ix
 unfolding added_ix
-written_is g bs id v ix ix' slots e h = e ∙ rw (with-same g.d g.cap id (λ b. get_or slots b 0) (face_slot g.d bs v) g.n ix.faces h)
+written_is g bs id v ix ix' slots e h = e ∙ rw (with_same g.d g.cap id (λ b. get_or slots b 0) (face_slot g.d bs v) g.n ix.faces h)
 
 -- ---- the call
 
 -- 1, 2, 3, then 5, then the late ones: the same order
-pub refusal-split : (g : Geo) (bs : List Float) (id : ℕ) (v : List Float) (ix : Ix) (work : List Float)
+pub refusal_split : (g : Geo) (bs : List Float) (id : ℕ) (v : List Float) (ix : Ix) (work : List Float)
     → add_refusal g bs id v ix work
     ≡ pick (eqb (add_shape g id (length bs) (length ix.faces) (length ix.marks) (length ix.vecs) (length work) (length v)) 0)
     (refuse 5 (all_finite v) (late_refusal g.d g.n bs v))
     (add_shape g id (length bs) (length ix.faces) (length ix.marks) (length ix.vecs) (length work) (length v))
 unfolding add_refusal add_shape late_refusal
-refusal-split g bs id v ix work =
+refusal_split g bs id v ix work =
     go (geo_ok g.d g.n g.cap g.mode) (lengths_ok g (length bs) (length ix.faces) (length ix.marks) (length ix.vecs) (length work) (length v)) (ltb id g.cap) _
   where
     go : (a b c : Bool) (r : ℕ) → refuse 1 a (refuse 2 b (refuse 3 c r)) ≡ pick (eqb (refuse 1 a (refuse 2 b (refuse 3 c 0))) 0) r (refuse 1 a (refuse 2 b (refuse 3 c 0)))
@@ -73,36 +73,36 @@ refusal-split g bs id v ix work =
     go true false c r = refl
     go false b c r = refl
 
-late-cases : (a b : Bool) (w : List Float) → work_after (refuse 6 a (refuse 7 b 0)) w ≡ float_zeros (length w)
+late_cases : (a b : Bool) (w : List Float) → work_after (refuse 6 a (refuse 7 b 0)) w ≡ float_zeros (length w)
 unfolding work_after
-late-cases true true w = refl
-late-cases true false w = refl
-late-cases false b w = refl
+late_cases true true w = refl
+late_cases true false w = refl
+late_cases false b w = refl
 
-late-work : (d n : ℕ) (bs v w : List Float) → work_after (late_refusal d n bs v) w ≡ float_zeros (length w)
+late_work : (d n : ℕ) (bs v w : List Float) → work_after (late_refusal d n bs v) w ≡ float_zeros (length w)
 unfolding late_refusal
-late-work d n bs v w = late-cases (eqb (norm_number v) 0) (projections_finite d bs v n) w
+late_work d n bs v w = late_cases (eqb (norm_number v) 0) (projections_finite d bs v n) w
 
 module _ (g : Geo) (bs : List Float) (id : ℕ) (v : List Float) (ix : Ix) (work : List Float) where
   abbrev shape : ℕ
   shape = add_shape g id (length bs) (length ix.faces) (length ix.marks) (length ix.vecs) (length work) (length v)
 
-  pub shape-refused : (s : ℕ) → s ≡ shape → (s ≡ 0 → ⊥) → added s ix work ≡ add_of g bs id v ix work
+  pub shape_refused : (s : ℕ) → s ≡ shape → (s ≡ 0 → ⊥) → added s ix work ≡ add_of g bs id v ix work
   unfolding add_of work_after
-  shape-refused s e h =
-      let h3 : s ≤ 3 = rw e (shape-high g id _ _ _ _ _ _) in
+  shape_refused s e h =
+      let h3 : s ≤ 3 = rw e (shape_high g id _ _ _ _ _ _) in
       let lo : 1 ≤ s = omega arith in
       let hi : s ≤ 5 = omega arith in
-      rw refusal-split (simp (← e, ne_eqb s 0 h, le-leb 1 s lo, le-leb s 5 hi))
+      rw refusal_split (simp (← e, ne_eqb s 0 h, le-leb 1 s lo, le-leb s 5 hi))
 
-  pub five-refused : (s : ℕ) → s ≡ shape → s ≡ 0 → all_finite v ≡ false → added 5 ix work ≡ add_of g bs id v ix work
+  pub five_refused : (s : ℕ) → s ≡ shape → s ≡ 0 → all_finite v ≡ false → added 5 ix work ≡ add_of g bs id v ix work
   unfolding add_of work_after
-  five-refused s e z f = rw refusal-split (simp (← e, eq-eqb s 0 z, f))
+  five_refused s e z f = rw refusal_split (simp (← e, eq-eqb s 0 z, f))
 
-  pub late-done : (r : ℕ) (ix' : Ix) (w : List Float) (s : ℕ) → s ≡ shape → s ≡ 0 → all_finite v ≡ true → r ≡ late_refusal g.d g.n bs v → ix' ≡ pick (eqb r 0) (added_ix g bs id v ix) ix
+  pub late_done : (r : ℕ) (ix' : Ix) (w : List Float) (s : ℕ) → s ≡ shape → s ≡ 0 → all_finite v ≡ true → r ≡ late_refusal g.d g.n bs v → ix' ≡ pick (eqb r 0) (added_ix g bs id v ix) ix
       → w ≡ float_zeros (length work) → added r ix' w ≡ add_of g bs id v ix work
   unfolding add_of
-  late-done r ix' w s d z f e i q =
+  late_done r ix' w s d z f e i q =
       let y : shape ≡ 0 = sym d ∙ z in
-      let t : add_refusal g bs id v ix work ≡ r = refusal-split g bs id v ix work ∙ rw (eq-eqb shape 0 y, f) (sym e) in
-      rw (t, i, q, e, late-work) refl
+      let t : add_refusal g bs id v ix work ≡ r = refusal_split g bs id v ix work ∙ rw (eq-eqb shape 0 y, f) (sym e) in
+      rw (t, i, q, e, late_work) refl

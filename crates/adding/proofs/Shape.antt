@@ -7,87 +7,87 @@ use borrow.Author.Tests.{ltb-true, eqb-true}
 use lib.Dec.{ltb, eqb}
 use Rattle.paper.specs.Choice.{pick, refuse}
 use Rattle.paper.specs.Geometry.{Geo, geo_ok}
-use Rattle.paper.proofs.Choice.{and_l, and_r, refuse-ok, refuse-rest}
-use Rattle.paper.proofs.Geometry.{geo-facts}
+use Rattle.paper.proofs.Choice.{and_l, and_r, refuse_ok, refuse_rest}
+use Rattle.paper.proofs.Geometry.{geo_facts}
 use Rattle.index_memory.specs.Memory.{own_ok, bases_ok, own_refusal}
-use Rattle.index_memory.proofs.Lengths.{own-sized, bases-long, own-tests, own_first}
+use Rattle.index_memory.proofs.Lengths.{own_sized, bases_long, own_tests, own_first}
 use Rattle.adding.specs.Adding.{lent_ok, lengths_ok, add_shape, Shaped}
 
 no_one : ◌≡◌ {A = ℕ} 1 0 → ⊥
 no_one e = omega arith
 
-no-two : ◌≡◌ {A = ℕ} 2 0 → ⊥
-no-two e = omega arith
+no_two : ◌≡◌ {A = ℕ} 2 0 → ⊥
+no_two e = omega arith
 
-no-three : ◌≡◌ {A = ℕ} 3 0 → ⊥
-no-three e = omega arith
+no_three : ◌≡◌ {A = ℕ} 3 0 → ⊥
+no_three e = omega arith
 
 module _ (g : Geo) (id lb lf lm lv lw lx : ℕ) (e : add_shape g id lb lf lm lv lw lx ≡ 0) where
-  geo-true : geo_ok g.d g.n g.cap g.mode ≡ true
+  geo_true : geo_ok g.d g.n g.cap g.mode ≡ true
   unfolding add_shape
-  geo-true = refuse-ok (geo_ok g.d g.n g.cap g.mode) 1 _ no_one e
+  geo_true = refuse_ok (geo_ok g.d g.n g.cap g.mode) 1 _ no_one e
 
   rest : refuse 2 (lengths_ok g lb lf lm lv lw lx) (refuse 3 (ltb id g.cap) 0) ≡ 0
   unfolding add_shape
-  rest = refuse-rest (geo_ok g.d g.n g.cap g.mode) 1 _ no_one e
+  rest = refuse_rest (geo_ok g.d g.n g.cap g.mode) 1 _ no_one e
 
-  lengths-true : lengths_ok g lb lf lm lv lw lx ≡ true
-  lengths-true = refuse-ok (lengths_ok g lb lf lm lv lw lx) 2 _ no-two rest
+  lengths_true : lengths_ok g lb lf lm lv lw lx ≡ true
+  lengths_true = refuse_ok (lengths_ok g lb lf lm lv lw lx) 2 _ no_two rest
 
-  lent-true : lent_ok g.d g.n lb lw lx ≡ true
-  lent-true = and_r (own_ok g.d g.n g.cap g.mode lf lm lv) _ lengths-true
+  lent_true : lent_ok g.d g.n lb lw lx ≡ true
+  lent_true = and_r (own_ok g.d g.n g.cap g.mode lf lm lv) _ lengths_true
 
-  id-true : ltb id g.cap ≡ true
-  id-true = refuse-ok (ltb id g.cap) 3 0 no-three (refuse-rest (lengths_ok g lb lf lm lv lw lx) 2 (refuse 3 (ltb id g.cap) 0) no-two rest)
+  id_true : ltb id g.cap ≡ true
+  id_true = refuse_ok (ltb id g.cap) 3 0 no_three (refuse_rest (lengths_ok g lb lf lm lv lw lx) 2 (refuse 3 (ltb id g.cap) 0) no_two rest)
 
   pub shaped : Shaped g id lb lf lm lv lw lx
   unfolding lent_ok
   shaped =
-      let o = own-sized g.d g.n g.cap g.mode lf lm lv geo-true (and_l (own_ok g.d g.n g.cap g.mode lf lm lv) _ lengths-true) in
-      let l = and_r (bases_ok g.d g.n lb) _ lent-true in
+      let o = own_sized g.d g.n g.cap g.mode lf lm lv geo_true (and_l (own_ok g.d g.n g.cap g.mode lf lm lv) _ lengths_true) in
+      let l = and_r (bases_ok g.d g.n lb) _ lent_true in
       record {
         facts = o.facts;
-        bases = bases-long g.d g.n lb (and_l (bases_ok g.d g.n lb) _ lent-true);
+        bases = bases_long g.d g.n lb (and_l (bases_ok g.d g.n lb) _ lent_true);
         faces = o.faces;
         marks = o.marks;
         vectors = o.vecs;
         work = eqb-true _ _ (and_l (eqb lw g.d) _ l);
         vector = eqb-true _ _ (and_r (eqb lw g.d) _ l);
-        id-low = ltb-true _ _ id-true;
+        id_low = ltb-true _ _ id_true;
       }
 
 -- the same of the number that the tests gave
-pub shaped-by : (g : Geo) (id lb lf lm lv lw lx s : ℕ) → s ≡ add_shape g id lb lf lm lv lw lx → s ≡ 0 → Shaped g id lb lf lm lv lw lx
-shaped-by g id lb lf lm lv lw lx s e z = shaped g id lb lf lm lv lw lx (sym e ∙ z)
+pub shaped_by : (g : Geo) (id lb lf lm lv lw lx s : ℕ) → s ≡ add_shape g id lb lf lm lv lw lx → s ≡ 0 → Shaped g id lb lf lm lv lw lx
+shaped_by g id lb lf lm lv lw lx s e z = shaped g id lb lf lm lv lw lx (sym e ∙ z)
 
-pick-le : (b : Bool) (x y k : ℕ) → x ≤ k → y ≤ k → pick b x y ≤ k
-pick-le true x y k p q = p
-pick-le false x y k p q = q
+pick_le : (b : Bool) (x y k : ℕ) → x ≤ k → y ≤ k → pick b x y ≤ k
+pick_le true x y k p q = p
+pick_le false x y k p q = q
 
-pub shape-high : (g : Geo) (id lb lf lm lv lw lx : ℕ) → add_shape g id lb lf lm lv lw lx ≤ 3
+pub shape_high : (g : Geo) (id lb lf lm lv lw lx : ℕ) → add_shape g id lb lf lm lv lw lx ≤ 3
 unfolding add_shape
-shape-high g id lb lf lm lv lw lx =
-    pick-le (geo_ok g.d g.n g.cap g.mode) _ 1 3
-    (pick-le (lengths_ok g lb lf lm lv lw lx) _ 2 3 (pick-le (ltb id g.cap) 0 3 3 (omega arith) (omega arith)) (omega arith)) (omega arith)
+shape_high g id lb lf lm lv lw lx =
+    pick_le (geo_ok g.d g.n g.cap g.mode) _ 1 3
+    (pick_le (lengths_ok g lb lf lm lv lw lx) _ 2 3 (pick_le (ltb id g.cap) 0 3 3 (omega arith) (omega arith)) (omega arith)) (omega arith)
 
 -- ---- the same three tests, as they are made
 
 module _ (g : Geo) (id lb lf lm lv lw lx own : ℕ) (e : own ≡ own_refusal g.d g.n g.cap g.mode lf lm lv) where
-  pub own-refused : (own ≡ 0 → ⊥) → own ≡ add_shape g id lb lf lm lv lw lx
+  pub own_refused : (own ≡ 0 → ⊥) → own ≡ add_shape g id lb lf lm lv lw lx
   unfolding add_shape
-  own-refused h = e ∙ own_first g.d g.n g.cap g.mode lf lm lv _ _ (λ z. h (e ∙ z))
+  own_refused h = e ∙ own_first g.d g.n g.cap g.mode lf lm lv _ _ (λ z. h (e ∙ z))
 
   module _ (z : own ≡ 0) where
     both : (geo_ok g.d g.n g.cap g.mode ≡ true) × (own_ok g.d g.n g.cap g.mode lf lm lv ≡ true)
-    both = own-tests g.d g.n g.cap g.mode lf lm lv (sym e ∙ z)
+    both = own_tests g.d g.n g.cap g.mode lf lm lv (sym e ∙ z)
 
-    pub own-bounds : (g.d ≤ 1024) × (g.n ≤ 32)
-    own-bounds = let f = geo-facts g.d g.n g.cap g.mode both.0 in (f.d-high, f.n-high)
+    pub own_bounds : (g.d ≤ 1024) × (g.n ≤ 32)
+    own_bounds = let f = geo_facts g.d g.n g.cap g.mode both.0 in (f.d_high, f.n_high)
 
-    pub lent-refused : lent_ok g.d g.n lb lw lx ≡ false → 2 ≡ add_shape g id lb lf lm lv lw lx
+    pub lent_refused : lent_ok g.d g.n lb lw lx ≡ false → 2 ≡ add_shape g id lb lf lm lv lw lx
     unfolding add_shape
-    lent-refused l = rw (both.0, both.1, l)
+    lent_refused l = rw (both.0, both.1, l)
 
-    pub id-decides : lent_ok g.d g.n lb lw lx ≡ true → refuse 3 (ltb id g.cap) 0 ≡ add_shape g id lb lf lm lv lw lx
+    pub id_decides : lent_ok g.d g.n lb lw lx ≡ true → refuse 3 (ltb id g.cap) 0 ≡ add_shape g id lb lf lm lv lw lx
     unfolding add_shape
-    id-decides l = rw (both.0, both.1, l)
+    id_decides l = rw (both.0, both.1, l)

@@ -97,12 +97,12 @@ pub record Shaped (g : Geo) (id lb lf lm lv lw lx : ℕ) : Type 0 where
   pub vectors : lv ≡ vector_bytes g.d g.cap g.mode
   pub work : lw ≡ g.d
   pub vector : lx ≡ g.d
-  pub id-low : id < g.cap
+  pub id_low : id < g.cap
 
 pub record SlotArgs (d n lb lx lw : ℕ) : Type 0 where
-  pub d-low : 1 ≤ d
-  pub d-high : d ≤ 1024
-  pub n-high : n ≤ 32
+  pub d_low : 1 ≤ d
+  pub d_high : d ≤ 1024
+  pub n_high : n ≤ 32
   pub bases : lb ≡ bases_len d n
   pub vector : lx ≡ d
   pub work : lw ≡ d
@@ -113,18 +113,18 @@ pub record SlotsAre (d n : ℕ) (bs v : List Float) (r : Slots) : Type 0 where
   pub slots : r.refusal ≡ 0 → (b : ℕ) → b < n → get_or r.slots b 0 ≡ face_slot d bs v b
 
 pub record FaceArgs (d n cap id lf : ℕ) (slots : List ℕ) : Type 0 where
-  pub d-high : d ≤ 1024
-  pub n-high : n ≤ 32
-  pub cap-high : cap ≤ 65536
-  pub cap-even : cap % 64 ≡ 0
-  pub id-low : id < cap
+  pub d_high : d ≤ 1024
+  pub n_high : n ≤ 32
+  pub cap_high : cap ≤ 65536
+  pub cap_even : cap % 64 ≡ 0
+  pub id_low : id < cap
   pub faces : lf ≡ face_words d n cap
   pub low : (b : ℕ) → b < n → get_or slots b 0 < 2 * d
 
 pub record VecArgs (d cap mode id lv lx lw : ℕ) : Type 0 where
-  pub d-high : d ≤ 1024
-  pub cap-high : cap ≤ 65536
-  pub id-low : id < cap
+  pub d_high : d ≤ 1024
+  pub cap_high : cap ≤ 65536
+  pub id_low : id < cap
   pub vectors : lv ≡ vector_bytes d cap mode
   pub vector : lx ≡ d
   pub work : lw ≡ d
@@ -137,5 +137,5 @@ pub record WriteArgs (d n cap mode id lf lm lv lw lx : ℕ) (slots : List ℕ) :
   pub vectors : lv ≡ vector_bytes d cap mode
   pub work : lw ≡ d
   pub vector : lx ≡ d
-  pub id-low : id < cap
+  pub id_low : id < cap
   pub low : (b : ℕ) → b < n → get_or slots b 0 < 2 * d

@@ -11,7 +11,7 @@ use Rattle.result.specs.Ranked.{Entry, larger}
 use Rattle.result.specs.Sets.{entries_of, empty_set, fed_set}
 use Rattle.result.specs.declared.ResultSet.{ResultSet}
 use Rattle.result.specs.declared.Fed.{Fed}
-use Rattle.result.proofs.Keeps.{entries-fed, entries_none}
+use Rattle.result.proofs.Keeps.{entries_fed, entries_none}
 use Rattle.result.proofs.Outcomes.{each_fed}
 use Rattle.backend_memory.specs.Ranking.{scored, ranking, rank_of, similarity_of}
 use Rattle.backend_memory.specs.Listed.{Each, none, more, TrueEntry}
@@ -24,36 +24,36 @@ each_at P (a ∷ l) d (suc i) (more p ps) h = each_at P l d i ps (omega arith)
 
 -- ---- a feed lists nothing but what was listed and the new entry
 
-each-fed-set : (P : Entry → Type 0) (e : Entry) → P e → (s : ResultSet) → Each P (entries_of s) → Each P (entries_of (fed_set s e))
-each-fed-set P e p s q = rw (entries-fed s e) (each_fed P e p larger s.k (entries_of s) q)
+each_fed_set : (P : Entry → Type 0) (e : Entry) → P e → (s : ResultSet) → Each P (entries_of s) → Each P (entries_of (fed_set s e))
+each_fed_set P e p s q = rw (entries_fed s e) (each_fed P e p larger s.k (entries_of s) q)
 
 -- ---- an accepted ranking
 
 -- the ids of a set are in it
-ids-inside : (m from : ℕ) (s : List ℕ) → Each (λ (i : ℕ). has s i ≡ 1) (ids_in m from s)
+ids_inside : (m from : ℕ) (s : List ℕ) → Each (λ (i : ℕ). has s i ≡ 1) (ids_in m from s)
 unfolding ids_in
-ids-inside zero from s = none
-ids-inside (suc m) from s = by (has s from) refl (ids-inside m (suc from) s)
+ids_inside zero from s = none
+ids_inside (suc m) from s = by (has s from) refl (ids_inside m (suc from) s)
   where
     by : (d : ℕ) → has s from ≡ d → Each (λ (i : ℕ). has s i ≡ 1) (ids_in m (suc from) s) → Each (λ (i : ℕ). has s i ≡ 1) (keep d from (ids_in m (suc from) s))
     by zero h q = q
     by (suc d) h q = let one : has s from ≡ 1 = omega arith in more one q
 
-ranking-listed : (ids ms : List ℕ) (f : ℕ → Float) (s : ResultSet) (is : List ℕ) → Each (λ (i : ℕ). has ids i ≡ 1) is → Each (TrueEntry ids ms f) (entries_of s)
+ranking_listed : (ids ms : List ℕ) (f : ℕ → Float) (s : ResultSet) (is : List ℕ) → Each (λ (i : ℕ). has ids i ≡ 1) is → Each (TrueEntry ids ms f) (entries_of s)
     → (ranking ms f s is).refusal ≡ 0 → Each (TrueEntry ids ms f) (entries_of (ranking ms f s is).set)
 unfolding ranking
-ranking-listed ids ms f s [] none q e = q
-ranking-listed ids ms f s (i ∷ is) (more h hs) q e =
+ranking_listed ids ms f s [] none q e = q
+ranking_listed ids ms f s (i ∷ is) (more h hs) q e =
     let a = first_of ms f s i is e in
     let new : TrueEntry ids ms f (scored f i) = record { inside = h; marked = a.marked; score = refl } in
     let e2 : (ranking ms f (fed_set s (scored f i)) is).refusal ≡ 0 = ap (λ (r : Fed). r.refusal) (sym a.rest) ∙ e in
     subst (λ (r : Fed). Each (TrueEntry ids ms f) (entries_of r.set)) (sym a.rest)
-    (ranking-listed ids ms f (fed_set s (scored f i)) is hs (each-fed-set (TrueEntry ids ms f) (scored f i) new s q) e2)
+    (ranking_listed ids ms f (fed_set s (scored f i)) is hs (each_fed_set (TrueEntry ids ms f) (scored f i) new s q) e2)
 
-pub rank-listed : (mode k : ℕ) (ids ms vs : List ℕ) (t : List Float) → (rank_of mode k ids ms vs t).refusal ≡ 0
+pub rank_listed : (mode k : ℕ) (ids ms vs : List ℕ) (t : List Float) → (rank_of mode k ids ms vs t).refusal ≡ 0
     → Each (TrueEntry ids ms (similarity_of mode vs t)) (entries_of (rank_of mode k ids ms vs t).set)
 unfolding rank_of
-rank-listed mode k ids ms vs t e =
+rank_listed mode k ids ms vs t e =
     let f = similarity_of mode vs t in
     let start : Each (TrueEntry ids ms f) (entries_of (empty_set k)) = rw (entries_none k) none in
-    ranking-listed ids ms f (empty_set k) (ids_of ids) (ids-inside (length ids * 64) 0 ids) start e
+    ranking_listed ids ms f (empty_set k) (ids_of ids) (ids_inside (length ids * 64) 0 ids) start e

@@ -11,9 +11,9 @@ use Rattle.index_memory.specs.Memory.{slot_bytes}
 use Rattle.bitmaps.specs.Words.{holds}
 use Rattle.bitmaps.specs.Walk.{NextIs, ids_from}
 use Rattle.bitmaps.specs.declared.Found.TheVariants.{At, Nothing}
-use Rattle.bitmaps.proofs.Ids.{walk-on, walk-end}
+use Rattle.bitmaps.proofs.Ids.{walk_on, walk_end}
 use Rattle.sqrt.specs.RootOf.{root_of, root}
-use Rattle.sqrt.proofs.Order.{below-root}
+use Rattle.sqrt.proofs.Order.{below_root}
 use Rattle.vector.specs.Fold.{squares_of}
 use Rattle.quantization.specs.Stored.{components}
 use Rattle.result.specs.Places.{full_above}
@@ -24,51 +24,51 @@ use Rattle.backend_memory.specs.Ranking.{similarity_of, refused, scored, ranking
 module _ (ms s : List ℕ) (f : ℕ → Float) (cur : ResultSet) (at : ℕ) where
   pub ended : NextIs s at Nothing → answer 0 cur ≡ ranking ms f cur (ids_from s at)
   unfolding ranking
-  ended g = rw (walk-end s at g)
+  ended g = rw (walk_end s at g)
 
   module _ (i : ℕ) (g : NextIs s at (At i)) where
-    pub no-mark : holds ms i ≡ false → refused 9 ≡ ranking ms f cur (ids_from s at)
+    pub no_mark : holds ms i ≡ false → refused 9 ≡ ranking ms f cur (ids_from s at)
     unfolding ranking
-    no-mark h = rw (walk-on s at i g, h)
+    no_mark h = rw (walk_on s at i g, h)
 
-    pub bad-score : holds ms i ≡ true → is_nan (f i) ≡ true → refused 10 ≡ ranking ms f cur (ids_from s at)
+    pub bad_score : holds ms i ≡ true → is_nan (f i) ≡ true → refused 10 ≡ ranking ms f cur (ids_from s at)
     unfolding ranking
-    bad-score h n = rw (walk-on s at i g, h, n)
+    bad_score h n = rw (walk_on s at i g, h, n)
 
-    pub one-fed : holds ms i ≡ true → is_nan (f i) ≡ false → ranking ms f (fed_set cur (scored f i)) (ids_from s (i + 1)) ≡ ranking ms f cur (ids_from s at)
+    pub one_fed : holds ms i ≡ true → is_nan (f i) ≡ false → ranking ms f (fed_set cur (scored f i)) (ids_from s (i + 1)) ≡ ranking ms f cur (ids_from s at)
     unfolding ranking
-    one-fed h n = rw (walk-on s at i g, h, n)
+    one_fed h n = rw (walk_on s at i g, h, n)
 
 -- ---- scores
 
 -- the root of the sum over the components of the id's slot is its score
-pub score-is : (mode : ℕ) (vs : List ℕ) (t : List Float) (i slot : ℕ) (x : Float) → slot ≡ slot_bytes (length t) mode
+pub score_is : (mode : ℕ) (vs : List ℕ) (t : List Float) (i slot : ℕ) (x : Float) → slot ≡ slot_bytes (length t) mode
     → x ≡ squares_of t (components mode vs (i * slot) (length t)) → root x ≡ similarity_of mode vs t i
 unfolding similarity_of
-score-is mode vs t i slot x e h = ap root (h ∙ ap (λ (s : ℕ). squares_of t (components mode vs (i * s) (length t))) e)
+score_is mode vs t i slot x e h = ap root (h ∙ ap (λ (s : ℕ). squares_of t (components mode vs (i * s) (length t))) e)
 
 -- a full list is closed to the root of every sum whose bits are below the bar
 abbrev pub ClosedBelow : ℕ → ℕ → List Float → ℕ → Type 0
 ClosedBelow len k sims bar = (q : ℕ) → q < bar → full_above len k sims (of_bits binary32 (root_of q)) ≡ true
 
 -- such a sum is closed out without its root
-pub bar-closes : (len k : ℕ) (sims : List Float) (bar : ℕ) (x : Float) (b : ℕ) → ClosedBelow len k sims bar → b ≡ to_bits binary32 x → b < bar → full_above len k sims (root x) ≡ true
+pub bar_closes : (len k : ℕ) (sims : List Float) (bar : ℕ) (x : Float) (b : ℕ) → ClosedBelow len k sims bar → b ≡ to_bits binary32 x → b < bar → full_above len k sims (root x) ≡ true
 unfolding root
-bar-closes len k sims bar x b h e l = ap (λ (q : ℕ). full_above len k sims (of_bits binary32 (root_of q))) (sym e) ∙ h b l
+bar_closes len k sims bar x b h e l = ap (λ (q : ℕ). full_above len k sims (of_bits binary32 (root_of q))) (sym e) ∙ h b l
 
 -- where the list is closed to the root of a sum, the bar may stand at its bits
-pub bar-raised : (len k : ℕ) (sims : List Float) (x : Float) (b : ℕ) → b ≡ to_bits binary32 x → b < 4294967296 → full_above len k sims (root x) ≡ true
+pub bar_raised : (len k : ℕ) (sims : List Float) (x : Float) (b : ℕ) → b ≡ to_bits binary32 x → b < 4294967296 → full_above len k sims (root x) ≡ true
     → ClosedBelow len k sims (b % 2147483648)
 unfolding root
-bar-raised len k sims x b e f h q l =
+bar_raised len k sims x b e f h q l =
     let r = and_r (eqb len k) _ h in
     let y : lt (of_bits binary32 (root_of b)) (get_or sims (len - 1) nan) ≡ true = rw e (and_r (leb 1 len) _ r) in
-    rw (and_l (eqb len k) _ h, and_l (leb 1 len) _ r) (below-root b (get_or sims (len - 1) nan) f y q l)
+    rw (and_l (eqb len k) _ h, and_l (leb 1 len) _ r) (below_root b (get_or sims (len - 1) nan) f y q l)
 
 -- a score that a list is closed to is a number
-pub closed-number : (len k : ℕ) (sims : List Float) (x : Float) → full_above len k sims x ≡ true → is_nan x ≡ false
+pub closed_number : (len k : ℕ) (sims : List Float) (x : Float) → full_above len k sims x ≡ true → is_nan x ≡ false
 unfolding lt is_nan
-closed-number len k sims x h = number x (get_or sims (len - 1) nan) (and_r (leb 1 len) _ (and_r (eqb len k) _ h))
+closed_number len k sims x h = number x (get_or sims (len - 1) nan) (and_r (leb 1 len) _ (and_r (eqb len k) _ h))
   where
     number : (x z : Float) → lt x z ≡ true → is_nan x ≡ false
     number nan z h = sym h

@@ -50,9 +50,9 @@ nearest_of mode k ms vs t = feeding (similarity_of mode vs t) (empty_set k) (ids
 
 -- what ranking asks of the lengths of the set, the marks, the vectors and the target
 pub record RankArgs (mode k ls lm lv lt : ℕ) : Type 0 where
-  pub k-high : k ≤ 256
+  pub k_high : k ≤ 256
   pub set : ls ≤ 1024
   pub marks : lm ≡ ls
-  pub d-low : 1 ≤ lt
-  pub d-high : lt ≤ 1024
+  pub d_low : 1 ≤ lt
+  pub d_high : lt ≤ 1024
   pub vectors : lv ≡ ls * 64 * slot_bytes lt mode

@@ -8,8 +8,8 @@ use lib.Dec.{eqb, ltb}
 use borrow.Author.Tests.{eqb-true, ltb-true}
 use Rattle.paper.specs.Choice.{refuse}
 use Rattle.paper.specs.Geometry.{cap_ok, set_words}
-use Rattle.paper.proofs.Choice.{refuse-ok, refuse-rest}
-use Rattle.paper.proofs.Geometry.{cap-facts}
+use Rattle.paper.proofs.Choice.{refuse_ok, refuse_rest}
+use Rattle.paper.proofs.Geometry.{cap_facts}
 use Rattle.bitmaps.specs.Answers.{set_fault, pair_fault, id_fault, unless_refused, Changed, AskedIs, CountedIs, stepped_to, walked_refusal, walked_value, WalkedIs}
 use Rattle.bitmaps.specs.declared.Found.{Found}
 use Rattle.bitmaps.specs.declared.Asked.{Asked}
@@ -27,37 +27,37 @@ pub record SetFacts (cap words : ℕ) : Type 0 where
   pub few : words ≤ 1024
   pub ids : words * 64 ≡ cap
 
-set-facts : (cap words : ℕ) → cap_ok cap ≡ true → words ≡ cap / 64 → SetFacts cap words
-set-facts cap words g l =
-    let f = cap-facts cap g in
+set_facts : (cap words : ℕ) → cap_ok cap ≡ true → words ≡ cap / 64 → SetFacts cap words
+set_facts cap words g l =
+    let f = cap_facts cap g in
     record { low = f.low; high = f.high; even = f.even; long = l; few = omega arith; ids = omega arith }
 
-pub set-accepted : (cap words : ℕ) → set_fault cap words ≡ 0 → SetFacts cap words
+pub set_accepted : (cap words : ℕ) → set_fault cap words ≡ 0 → SetFacts cap words
 unfolding set_fault
-set-accepted cap words e =
-    let g = refuse-ok (cap_ok cap) 1 _ (omega arith) e in
-    let e1 = refuse-rest (cap_ok cap) 1 _ (omega arith) e in
-    set-facts cap words g (eqb-true _ _ (refuse-ok (eqb words (set_words cap)) 2 _ (omega arith) e1))
+set_accepted cap words e =
+    let g = refuse_ok (cap_ok cap) 1 _ (omega arith) e in
+    let e1 = refuse_rest (cap_ok cap) 1 _ (omega arith) e in
+    set_facts cap words g (eqb-true _ _ (refuse_ok (eqb words (set_words cap)) 2 _ (omega arith) e1))
 
-pub pair-accepted : (cap words other : ℕ) → pair_fault cap words other ≡ 0 → SetFacts cap words × (other ≡ words)
+pub pair_accepted : (cap words other : ℕ) → pair_fault cap words other ≡ 0 → SetFacts cap words × (other ≡ words)
 unfolding pair_fault
-pair-accepted cap words other e =
-    let g = refuse-ok (cap_ok cap) 1 _ (omega arith) e in
-    let e1 = refuse-rest (cap_ok cap) 1 _ (omega arith) e in
-    let l : words ≡ cap / 64 = eqb-true _ _ (refuse-ok (eqb words (set_words cap)) 2 _ (omega arith) e1) in
-    let e2 = refuse-rest (eqb words (set_words cap)) 2 _ (omega arith) e1 in
-    let k : other ≡ cap / 64 = eqb-true _ _ (refuse-ok (eqb other (set_words cap)) 2 _ (omega arith) e2) in
-    (set-facts cap words g l, k ∙ sym l)
+pair_accepted cap words other e =
+    let g = refuse_ok (cap_ok cap) 1 _ (omega arith) e in
+    let e1 = refuse_rest (cap_ok cap) 1 _ (omega arith) e in
+    let l : words ≡ cap / 64 = eqb-true _ _ (refuse_ok (eqb words (set_words cap)) 2 _ (omega arith) e1) in
+    let e2 = refuse_rest (eqb words (set_words cap)) 2 _ (omega arith) e1 in
+    let k : other ≡ cap / 64 = eqb-true _ _ (refuse_ok (eqb other (set_words cap)) 2 _ (omega arith) e2) in
+    (set_facts cap words g l, k ∙ sym l)
 
-pub id-accepted : (cap words id : ℕ) → id_fault cap words id ≡ 0 → SetFacts cap words × (id < words * 64)
+pub id_accepted : (cap words id : ℕ) → id_fault cap words id ≡ 0 → SetFacts cap words × (id < words * 64)
 unfolding id_fault
-id-accepted cap words id e =
-    let g = refuse-ok (cap_ok cap) 1 _ (omega arith) e in
-    let e1 = refuse-rest (cap_ok cap) 1 _ (omega arith) e in
-    let l : words ≡ cap / 64 = eqb-true _ _ (refuse-ok (eqb words (set_words cap)) 2 _ (omega arith) e1) in
-    let e2 = refuse-rest (eqb words (set_words cap)) 2 _ (omega arith) e1 in
-    let b : id < cap = ltb-true _ _ (refuse-ok (ltb id cap) 3 _ (omega arith) e2) in
-    let s = set-facts cap words g l in
+id_accepted cap words id e =
+    let g = refuse_ok (cap_ok cap) 1 _ (omega arith) e in
+    let e1 = refuse_rest (cap_ok cap) 1 _ (omega arith) e in
+    let l : words ≡ cap / 64 = eqb-true _ _ (refuse_ok (eqb words (set_words cap)) 2 _ (omega arith) e1) in
+    let e2 = refuse_rest (eqb words (set_words cap)) 2 _ (omega arith) e1 in
+    let b : id < cap = ltb-true _ _ (refuse_ok (ltb id cap) 3 _ (omega arith) e2) in
+    let s = set_facts cap words g l in
     (s, omega arith)
 
 -- the faults of a pair, and of an id, begin as those of one set
@@ -72,61 +72,61 @@ goes_on true false f x e z = absurd (omega arith)
 goes_on false l f x e z = absurd (omega arith)
 
 module _ (cap words f : ℕ) (e : f ≡ set_fault cap words) where
-  pub pair-first : (other : ℕ) → (f ≡ 0 → ⊥) → f ≡ pair_fault cap words other
+  pub pair_first : (other : ℕ) → (f ≡ 0 → ⊥) → f ≡ pair_fault cap words other
   unfolding set_fault pair_fault
-  pair-first other h = goes_first (cap_ok cap) (eqb words (set_words cap)) f _ e h
+  pair_first other h = goes_first (cap_ok cap) (eqb words (set_words cap)) f _ e h
 
   pub pair_then : (other : ℕ) → f ≡ 0 → refuse 2 (eqb other (set_words cap)) 0 ≡ pair_fault cap words other
   unfolding set_fault pair_fault
   pair_then other z = goes_on (cap_ok cap) (eqb words (set_words cap)) f _ e z
 
-  pub id-first : (id : ℕ) → (f ≡ 0 → ⊥) → f ≡ id_fault cap words id
+  pub id_first : (id : ℕ) → (f ≡ 0 → ⊥) → f ≡ id_fault cap words id
   unfolding set_fault id_fault
-  id-first id h = goes_first (cap_ok cap) (eqb words (set_words cap)) f _ e h
+  id_first id h = goes_first (cap_ok cap) (eqb words (set_words cap)) f _ e h
 
-  pub id-then : (id : ℕ) → f ≡ 0 → refuse 3 (ltb id cap) 0 ≡ id_fault cap words id
+  pub id_then : (id : ℕ) → f ≡ 0 → refuse 3 (ltb id cap) 0 ≡ id_fault cap words id
   unfolding set_fault id_fault
-  id-then id z = goes_on (cap_ok cap) (eqb words (set_words cap)) f _ e z
+  id_then id z = goes_on (cap_ok cap) (eqb words (set_words cap)) f _ e z
 
 -- ---- a call is refused
 
-pub refused-old : {A : Type 0} (f : ℕ) (new old : A) → (f ≡ 0 → ⊥) → old ≡ unless_refused f new old
-refused-old zero new old h = absurd (h refl)
-refused-old (suc f) new old h = refl
+pub refused_old : {A : Type 0} (f : ℕ) (new old : A) → (f ≡ 0 → ⊥) → old ≡ unless_refused f new old
+refused_old zero new old h = absurd (h refl)
+refused_old (suc f) new old h = refl
 
-pub changed-refused : (fault f : ℕ) (new old : List ℕ) → f ≡ fault → (f ≡ 0 → ⊥) → Changed fault new old f old
-changed-refused fault f new old e h = record { refusal = e; words = rw (← e) (refused-old f new old h) }
+pub changed_refused : (fault f : ℕ) (new old : List ℕ) → f ≡ fault → (f ≡ 0 → ⊥) → Changed fault new old f old
+changed_refused fault f new old e h = record { refusal = e; words = rw (← e) (refused_old f new old h) }
 
-pub asked-refused : (fault f : ℕ) (b : Bool) → f ≡ fault → (f ≡ 0 → ⊥) → AskedIs fault b (Asked.Refused f)
-asked-refused fault zero b e h = absurd (h refl)
-asked-refused fault (suc f) b e h = record { answer = rw (← e); refusal = e; value = rw (← e) }
+pub asked_refused : (fault f : ℕ) (b : Bool) → f ≡ fault → (f ≡ 0 → ⊥) → AskedIs fault b (Asked.Refused f)
+asked_refused fault zero b e h = absurd (h refl)
+asked_refused fault (suc f) b e h = record { answer = rw (← e); refusal = e; value = rw (← e) }
 
-pub counted-refused : (fault f n : ℕ) → f ≡ fault → (f ≡ 0 → ⊥) → CountedIs fault n (Counted.Refused f)
-counted-refused fault zero n e h = absurd (h refl)
-counted-refused fault (suc f) n e h = record { answer = rw (← e); refusal = e; value = rw (← e) }
+pub counted_refused : (fault f n : ℕ) → f ≡ fault → (f ≡ 0 → ⊥) → CountedIs fault n (Counted.Refused f)
+counted_refused fault zero n e h = absurd (h refl)
+counted_refused fault (suc f) n e h = record { answer = rw (← e); refusal = e; value = rw (← e) }
 
-pub walked-refused : (fault f : ℕ) (n : Found) → f ≡ fault → (f ≡ 0 → ⊥) → WalkedIs fault n (Walked.Refused f)
-walked-refused fault zero n e h = absurd (h refl)
-walked-refused fault (suc f) n e h = record { answer = rw (← e); refusal = e; value = rw (← e) }
+pub walked_refused : (fault f : ℕ) (n : Found) → f ≡ fault → (f ≡ 0 → ⊥) → WalkedIs fault n (Walked.Refused f)
+walked_refused fault zero n e h = absurd (h refl)
+walked_refused fault (suc f) n e h = record { answer = rw (← e); refusal = e; value = rw (← e) }
 
 -- ---- a call is accepted
 
-pub changed-done : (fault : ℕ) (new old left : List ℕ) → fault ≡ 0 → left ≡ new → Changed fault new old 0 left
-changed-done fault new old left e w = record { refusal = sym e; words = rw e w }
+pub changed_done : (fault : ℕ) (new old left : List ℕ) → fault ≡ 0 → left ≡ new → Changed fault new old 0 left
+changed_done fault new old left e w = record { refusal = sym e; words = rw e w }
 
-pub asked-done : (fault : ℕ) (b r : Bool) → fault ≡ 0 → r ≡ b → AskedIs fault b (Asked.Is r)
-asked-done fault b r e w = record { answer = rw e (ap Asked.Is w); refusal = sym e; value = rw e w }
+pub asked_done : (fault : ℕ) (b r : Bool) → fault ≡ 0 → r ≡ b → AskedIs fault b (Asked.Is r)
+asked_done fault b r e w = record { answer = rw e (ap Asked.Is w); refusal = sym e; value = rw e w }
 
-pub counted-done : (fault n r : ℕ) → fault ≡ 0 → r ≡ n → CountedIs fault n (Counted.Ids r)
-counted-done fault n r e w = record { answer = rw e (ap Counted.Ids w); refusal = sym e; value = rw e w }
+pub counted_done : (fault n r : ℕ) → fault ≡ 0 → r ≡ n → CountedIs fault n (Counted.Ids r)
+counted_done fault n r e w = record { answer = rw e (ap Counted.Ids w); refusal = sym e; value = rw e w }
 
-pub walked-done : (fault : ℕ) (n r : Found) → fault ≡ 0 → r ≡ n → WalkedIs fault n (stepped_to r)
-walked-done fault n r e w = record { answer = rw e (ap stepped_to w); refusal = rw e (stepped-number r); value = rw e (stepped-value r ∙ w) }
+pub walked_done : (fault : ℕ) (n r : Found) → fault ≡ 0 → r ≡ n → WalkedIs fault n (stepped_to r)
+walked_done fault n r e w = record { answer = rw e (ap stepped_to w); refusal = rw e (stepped_number r); value = rw e (stepped_value r ∙ w) }
   where
-    stepped-number : (r : Found) → walked_refusal (stepped_to r) ≡ 0
-    stepped-number (Found.At i) = refl
-    stepped-number Found.Nothing = refl
+    stepped_number : (r : Found) → walked_refusal (stepped_to r) ≡ 0
+    stepped_number (Found.At i) = refl
+    stepped_number Found.Nothing = refl
 
-    stepped-value : (r : Found) → walked_value (stepped_to r) ≡ r
-    stepped-value (Found.At i) = refl
-    stepped-value Found.Nothing = refl
+    stepped_value : (r : Found) → walked_value (stepped_to r) ≡ r
+    stepped_value (Found.At i) = refl
+    stepped_value Found.Nothing = refl

@@ -15,13 +15,13 @@ use Rattle.bitmaps.specs.Walk.{NextIs, keep, ids_in, ids_from, ids_of, first_of,
 use Rattle.bitmaps.specs.declared.Found.{Found}
 use Rattle.bitmaps.specs.declared.Found.TheVariants.{At, Nothing}
 use Rattle.bitmaps.proofs.Digits.{Words, digit_lt}
-use Rattle.bitmaps.proofs.Rising.{le-or-lt, past_end}
-use Rattle.bitmaps.proofs.Size.{sum-ext, size-has}
+use Rattle.bitmaps.proofs.Rising.{le_or_lt, past_end}
+use Rattle.bitmaps.proofs.Size.{sum_ext, size_has}
 
-pub ids-none : (m from : ℕ) (s : List ℕ) → ((j : ℕ) → from ≤ j → has s j ≡ 0) → ids_in m from s ≡ []
+pub ids_none : (m from : ℕ) (s : List ℕ) → ((j : ℕ) → from ≤ j → has s j ≡ 0) → ids_in m from s ≡ []
 unfolding ids_in
-ids-none zero from s h = refl
-ids-none (suc m) from s h = rw (h from (omega arith)) (ids-none m (suc from) s (λ j l. h j (omega arith)))
+ids_none zero from s h = refl
+ids_none (suc m) from s h = rw (h from (omega arith)) (ids_none m (suc from) s (λ j l. h j (omega arith)))
 
 -- the least id i from `from` on comes first, and those after it follow
 pub ids_next : (m from i : ℕ) (s : List ℕ) → from ≤ i → i < from + m → has s i ≡ 1 → ((j : ℕ) → from ≤ j → j < i → has s j ≡ 0)
@@ -29,7 +29,7 @@ pub ids_next : (m from i : ℕ) (s : List ℕ) → from ≤ i → i < from + m �
 unfolding ids_in
 ids_next zero from i s a b h k = absurd (omega arith)
 ids_next (suc m) from i s a b h k =
-    ⊎_elim here (λ (l : from < i). later l (ids_next m (suc from) i s l (omega arith) h (λ j x y. k j (omega arith) y))) (le-or-lt i from)
+    ⊎_elim here (λ (l : from < i). later l (ids_next m (suc from) i s l (omega arith) h (λ j x y. k j (omega arith) y))) (le_or_lt i from)
   where
     here : i ≤ from → ids_in (suc m) from s ≡ i ∷ ids_in (from + suc m - (i + 1)) (i + 1) s
     here l =
@@ -43,12 +43,12 @@ ids_next (suc m) from i s a b h k =
         rw (e, k from (omega arith) l) ih
 
 -- as many as there are
-pub ids-length : (m from : ℕ) (s : List ℕ) → length (ids_in m from s) ≡ sum_to m (λ j. has s (from + j))
+pub ids_length : (m from : ℕ) (s : List ℕ) → length (ids_in m from s) ≡ sum_to m (λ j. has s (from + j))
 unfolding ids_in sum_to
-ids-length zero from s = refl
-ids-length (suc m) from s =
+ids_length zero from s = refl
+ids_length (suc m) from s =
     kept (has s from) (digit_lt _ _)
-    ∙ ap₂ (λ (x y : ℕ). x + y) (ap (has s) zeroed) (ids-length m (suc from) s ∙ sum-ext m (λ j. has s (suc from + j)) (λ j. has s (from + suc j)) (λ j l. let e : suc from + j ≡ from + suc j = omega arith in rw e))
+    ∙ ap₂ (λ (x y : ℕ). x + y) (ap (has s) zeroed) (ids_length m (suc from) s ∙ sum_ext m (λ j. has s (suc from + j)) (λ j. has s (from + suc j)) (λ j l. let e : suc from + j ≡ from + suc j = omega arith in rw e))
   where
     zeroed : from ≡ from + 0
     zeroed = omega arith
@@ -58,99 +58,99 @@ ids-length (suc m) from s =
     kept (suc zero) h = omega arith
     kept (suc (suc d)) h = absurd (omega arith)
 
-pub ids-size : (s : List ℕ) → Words s → length (ids_of s) ≡ size s
-ids-size s w =
-    ids-length (length s * 64) 0 s
-    ∙ sum-ext (length s * 64) (λ j. has s (0 + j)) (has s) (λ j l. let e : 0 + j ≡ j = omega arith in rw e)
-    ∙ sym (size-has s w)
+pub ids_size : (s : List ℕ) → Words s → length (ids_of s) ≡ size s
+ids_size s w =
+    ids_length (length s * 64) 0 s
+    ∙ sum_ext (length s * 64) (λ j. has s (0 + j)) (has s) (λ j l. let e : 0 + j ≡ j = omega arith in rw e)
+    ∙ sym (size_has s w)
 
 -- ---- the list has each id once, and nothing else; and it rises
 
 -- what `keep` adds to a count
-listed-keep : (i from d : ℕ) (l : List ℕ) → d < 2 → listed i (keep d from l) ≡ pick (eqb i from) d 0 + listed i l
+listed_keep : (i from d : ℕ) (l : List ℕ) → d < 2 → listed i (keep d from l) ≡ pick (eqb i from) d 0 + listed i l
 unfolding listed
-listed-keep i from zero l h = omega (arith, neither (eqb i from))
+listed_keep i from zero l h = omega (arith, neither (eqb i from))
   where
     neither : (b : Bool) → pick {A = ℕ} b 0 0 ≡ 0
     neither true = refl
     neither false = refl
-listed-keep i from (suc zero) l h = refl
-listed-keep i from (suc (suc d)) l h = absurd (omega arith)
+listed_keep i from (suc zero) l h = refl
+listed_keep i from (suc (suc d)) l h = absurd (omega arith)
 
-ids-below : (m from i : ℕ) (s : List ℕ) → i < from → listed i (ids_in m from s) ≡ 0
+ids_below : (m from i : ℕ) (s : List ℕ) → i < from → listed i (ids_in m from s) ≡ 0
 unfolding ids_in listed
-ids-below zero from i s h = refl
-ids-below (suc m) from i s h =
-    listed-keep i from (has s from) (ids_in m (suc from) s) (digit_lt _ _)
-    ∙ rw (ne_eqb i from (omega arith), ids-below m (suc from) i s (omega arith))
+ids_below zero from i s h = refl
+ids_below (suc m) from i s h =
+    listed_keep i from (has s from) (ids_in m (suc from) s) (digit_lt _ _)
+    ∙ rw (ne_eqb i from (omega arith), ids_below m (suc from) i s (omega arith))
 
-ids-within : (m from i : ℕ) (s : List ℕ) → from ≤ i → i < from + m → listed i (ids_in m from s) ≡ has s i
+ids_within : (m from i : ℕ) (s : List ℕ) → from ≤ i → i < from + m → listed i (ids_in m from s) ≡ has s i
 unfolding ids_in
-ids-within zero from i s a b = absurd (omega arith)
-ids-within (suc m) from i s a b =
-    listed-keep i from (has s from) (ids_in m (suc from) s) (digit_lt _ _)
-    ∙ ⊎_elim here (λ (l : from < i). later l (ids-within m (suc from) i s l (omega arith))) (le-or-lt i from)
+ids_within zero from i s a b = absurd (omega arith)
+ids_within (suc m) from i s a b =
+    listed_keep i from (has s from) (ids_in m (suc from) s) (digit_lt _ _)
+    ∙ ⊎_elim here (λ (l : from < i). later l (ids_within m (suc from) i s l (omega arith))) (le_or_lt i from)
   where
     here : i ≤ from → pick (eqb i from) (has s from) 0 + listed i (ids_in m (suc from) s) ≡ has s i
     here l =
         let e : i ≡ from = omega arith in
-        rw (eq-eqb i from e, ids-below m (suc from) i s (omega arith), e) (omega arith)
+        rw (eq-eqb i from e, ids_below m (suc from) i s (omega arith), e) (omega arith)
 
     later : from < i → listed i (ids_in m (suc from) s) ≡ has s i → pick (eqb i from) (has s from) 0 + listed i (ids_in m (suc from) s) ≡ has s i
     later l ih = rw (ne_eqb i from (omega arith), ih) (omega arith)
 
-ids-past : (m from i : ℕ) (s : List ℕ) → from + m ≤ i → listed i (ids_in m from s) ≡ 0
+ids_past : (m from i : ℕ) (s : List ℕ) → from + m ≤ i → listed i (ids_in m from s) ≡ 0
 unfolding ids_in listed
-ids-past zero from i s h = refl
-ids-past (suc m) from i s h =
-    listed-keep i from (has s from) (ids_in m (suc from) s) (digit_lt _ _)
-    ∙ rw (ne_eqb i from (omega arith), ids-past m (suc from) i s (omega arith))
+ids_past zero from i s h = refl
+ids_past (suc m) from i s h =
+    listed_keep i from (has s from) (ids_in m (suc from) s) (digit_lt _ _)
+    ∙ rw (ne_eqb i from (omega arith), ids_past m (suc from) i s (omega arith))
 
 -- an id of the set stands once in the list, any other number never
-pub ids-once : (s : List ℕ) (i : ℕ) → listed i (ids_of s) ≡ has s i
-ids-once s i =
+pub ids_once : (s : List ℕ) (i : ℕ) → listed i (ids_of s) ≡ has s i
+ids_once s i =
     ⊎_elim
-    (λ (l : length s * 64 ≤ i). ids-past (length s * 64) 0 i s (omega arith) ∙ sym (past_end s i l))
-    (λ (l : i < length s * 64). ids-within (length s * 64) 0 i s (omega arith) (omega arith))
-    (le-or-lt (length s * 64) i)
+    (λ (l : length s * 64 ≤ i). ids_past (length s * 64) 0 i s (omega arith) ∙ sym (past_end s i l))
+    (λ (l : i < length s * 64). ids_within (length s * 64) 0 i s (omega arith) (omega arith))
+    (le_or_lt (length s * 64) i)
 
-pub ids-rise : (m from low : ℕ) (s : List ℕ) → low ≤ from → RisesFrom low (ids_in m from s)
+pub ids_rise : (m from low : ℕ) (s : List ℕ) → low ≤ from → RisesFrom low (ids_in m from s)
 unfolding ids_in RisesFrom
-ids-rise zero from low s h = tt
-ids-rise (suc m) from low s h = kept (has s from) (ids-rise m (suc from) low s (omega arith)) (ids-rise m (suc from) (suc from) s (omega arith))
+ids_rise zero from low s h = tt
+ids_rise (suc m) from low s h = kept (has s from) (ids_rise m (suc from) low s (omega arith)) (ids_rise m (suc from) (suc from) s (omega arith))
   where
     kept : (d : ℕ) → RisesFrom low (ids_in m (suc from) s) → RisesFrom (suc from) (ids_in m (suc from) s) → RisesFrom low (keep d from (ids_in m (suc from) s))
     kept zero a b = a
     kept (suc d) a b = (h, b)
 
-pub ids-rising : (s : List ℕ) → RisesFrom 0 (ids_of s)
-ids-rising s = ids-rise (length s * 64) 0 0 s (omega arith)
+pub ids_rising : (s : List ℕ) → RisesFrom 0 (ids_of s)
+ids_rising s = ids_rise (length s * 64) 0 0 s (omega arith)
 
 -- ---- the walk by `next` goes through the list: the id found comes first, and the rest is what follows from one past it
 
-pub walk-on : (s : List ℕ) (from i : ℕ) → NextIs s from (At i) → ids_from s from ≡ i ∷ ids_from s (i + 1)
-walk-on s from i p =
+pub walk_on : (s : List ℕ) (from i : ℕ) → NextIs s from (At i) → ids_from s from ≡ i ∷ ids_from s (i + 1)
+walk_on s from i p =
     let e : from + (length s * 64 - from) - (i + 1) ≡ length s * 64 - (i + 1) = omega arith in
     ids_next (length s * 64 - from) from i s p.0 (omega arith) p.2 p.3 ∙ rw e
 
-pub walk-end : (s : List ℕ) (from : ℕ) → NextIs s from Nothing → ids_from s from ≡ []
-walk-end s from p = ids-none (length s * 64 - from) from s p
+pub walk_end : (s : List ℕ) (from : ℕ) → NextIs s from Nothing → ids_from s from ≡ []
+walk_end s from p = ids_none (length s * 64 - from) from s p
 
-pub walk-start : (s : List ℕ) → ids_from s 0 ≡ ids_of s
-walk-start s = let e : length s * 64 - 0 ≡ length s * 64 = omega arith in rw e
+pub walk_start : (s : List ℕ) → ids_from s 0 ≡ ids_of s
+walk_start s = let e : length s * 64 - 0 ≡ length s * 64 = omega arith in rw e
 
 -- the answer of `next` is the first of the ids at or after the place
-pub next-first : (s : List ℕ) (from : ℕ) (r : Found) → NextIs s from r → r ≡ first_of (ids_from s from)
-next-first s from (At i) p = sym (ap first_of (walk-on s from i p))
-next-first s from Nothing p = sym (ap first_of (walk-end s from p))
+pub next_first : (s : List ℕ) (from : ℕ) (r : Found) → NextIs s from r → r ≡ first_of (ids_from s from)
+next_first s from (At i) p = sym (ap first_of (walk_on s from i p))
+next_first s from Nothing p = sym (ap first_of (walk_end s from p))
 
 -- two answers that meet the contract of `next` are the same
-pub next-unique : (s : List ℕ) (from : ℕ) (r r' : Found) → NextIs s from r → NextIs s from r' → r ≡ r'
-next-unique s from (At i) (At j) p q =
-    let low : i ≤ j = ⊎_elim (λ (l : i ≤ j). l) (λ (l : j < i). absurd (omega (arith, p.3 j q.0 l, q.2))) (le-or-lt i j) in
-    let high : j ≤ i = ⊎_elim (λ (l : j ≤ i). l) (λ (l : i < j). absurd (omega (arith, q.3 i p.0 l, p.2))) (le-or-lt j i) in
+pub next_unique : (s : List ℕ) (from : ℕ) (r r' : Found) → NextIs s from r → NextIs s from r' → r ≡ r'
+next_unique s from (At i) (At j) p q =
+    let low : i ≤ j = ⊎_elim (λ (l : i ≤ j). l) (λ (l : j < i). absurd (omega (arith, p.3 j q.0 l, q.2))) (le_or_lt i j) in
+    let high : j ≤ i = ⊎_elim (λ (l : j ≤ i). l) (λ (l : i < j). absurd (omega (arith, q.3 i p.0 l, p.2))) (le_or_lt j i) in
     let same : i ≡ j = omega arith in
     ap At same
-next-unique s from (At i) Nothing p q = absurd (omega (arith, q i p.0, p.2))
-next-unique s from Nothing (At j) p q = absurd (omega (arith, p j q.0, q.2))
-next-unique s from Nothing Nothing p q = refl
+next_unique s from (At i) Nothing p q = absurd (omega (arith, q i p.0, p.2))
+next_unique s from Nothing (At j) p q = absurd (omega (arith, p j q.0, q.2))
+next_unique s from Nothing Nothing p q = refl

@@ -11,12 +11,12 @@ use lib.Seq.{get_or-set_same, get_or-set_other}
 use lib.Pow.{shr-shr, pow_mono, shr_le}
 use lib.Count.{count_trailing_zeros, under}
 use Rattle.bitmaps.specs.Words.{digit, has, inserted}
-use Rattle.bitmaps.proofs.Digits.{Words, digit-suc, or-digit}
+use Rattle.bitmaps.proofs.Digits.{Words, digit_suc, or_digit}
 
-pub le-or-lt : (a b : ℕ) → (a ≤ b) ⊎ (b < a)
-le-or-lt zero b = inl (omega arith)
-le-or-lt (suc a) zero = inr (omega arith)
-le-or-lt (suc a) (suc b) = ⊎_elim (λ p. inl (omega arith)) (λ q. inr (omega arith)) (le-or-lt a b)
+pub le_or_lt : (a b : ℕ) → (a ≤ b) ⊎ (b < a)
+le_or_lt zero b = inl (omega arith)
+le_or_lt (suc a) zero = inr (omega arith)
+le_or_lt (suc a) (suc b) = ⊎_elim (λ p. inl (omega arith)) (λ q. inr (omega arith)) (le_or_lt a b)
 
 same_or_not : (a b : ℕ) → (a ≡ b) ⊎ (a ≡ b → ⊥)
 same_or_not zero zero = inl refl
@@ -28,60 +28,60 @@ same_or_not (suc a) (suc b) = ⊎_elim (λ p. inl (ap suc p)) (λ (q : a ≡ b �
 abbrev pub Lowest : ℕ → ℕ → Type 0
 Lowest x t = (digit x t ≡ 1) × ((j : ℕ) → j < t → digit x j ≡ 0)
 
-pub trailing-lowest : (k x : ℕ) → x < 2 ^ k → 0 < x → Lowest x (count_trailing_zeros k x)
+pub trailing_lowest : (k x : ℕ) → x < 2 ^ k → 0 < x → Lowest x (count_trailing_zeros k x)
 unfolding count_trailing_zeros
-trailing-lowest zero x h p = absurd (omega arith)
-trailing-lowest (suc k) x h p = go (λ q. trailing-lowest k (x / 2) (omega (arith, pow-suc 2 k)) q) (x % 2) refl
+trailing_lowest zero x h p = absurd (omega arith)
+trailing_lowest (suc k) x h p = go (λ q. trailing_lowest k (x / 2) (omega (arith, pow-suc 2 k)) q) (x % 2) refl
   where
     below : (t : ℕ) → x % 2 ≡ 0 → ((j : ℕ) → j < t → digit (x / 2) j ≡ 0) → (j : ℕ) → j < suc t → digit x j ≡ 0
     below t e h zero l = omega arith
-    below t e h (suc j) l = digit-suc x j ∙ h j (omega arith)
+    below t e h (suc j) l = digit_suc x j ∙ h j (omega arith)
 
     go : (0 < x / 2 → Lowest (x / 2) (count_trailing_zeros k (x / 2))) → (d : ℕ) → x % 2 ≡ d → Lowest x (under d (count_trailing_zeros k (x / 2)))
     go ih zero e =
         let r = ih (omega arith) in
-        (digit-suc x (count_trailing_zeros k (x / 2)) ∙ r.0, below (count_trailing_zeros k (x / 2)) e r.1)
+        (digit_suc x (count_trailing_zeros k (x / 2)) ∙ r.0, below (count_trailing_zeros k (x / 2)) e r.1)
     go ih (suc d) e = (omega arith, λ j l. absurd (omega arith))
 
 pub digit_shift : (x s k : ℕ) → digit (x / 2 ^ s) k ≡ digit x (s + k)
 digit_shift x s k = rw shr-shr
 
-pub digit-high : (n k x : ℕ) → x < 2 ^ n → n ≤ k → digit x k ≡ 0
-digit-high n k x h l = rw (div-eq_of_lt (lt_of_lt_of_le h (pow_mono l)))
+pub digit_high : (n k x : ℕ) → x < 2 ^ n → n ≤ k → digit x k ≡ 0
+digit_high n k x h l = rw (div-eq_of_lt (lt_of_lt_of_le h (pow_mono l)))
 
 -- id q * 64 + m of a set, for m < 64
-pub has-at : (a : List ℕ) (q m i : ℕ) → m < 64 → i ≡ q * 64 + m → has a i ≡ digit (get_or a q 0) m
-has-at a q m i h e =
+pub has_at : (a : List ℕ) (q m i : ℕ) → m < 64 → i ≡ q * 64 + m → has a i ≡ digit (get_or a q 0) m
+has_at a q m i h e =
     let d : i / 64 ≡ q = omega arith in
     let r : i % 64 ≡ m = omega arith in
     rw (d, r)
 
 -- y is what is left of word q from digit s on
 module _ (a : List ℕ) (q s y : ℕ) (w : Words a) (hs : s < 64) (e : y ≡ get_or a q 0 / 2 ^ s) where
-  y-word : y < 2 ^ 64
-  y-word = omega (arith, w q, shr_le (get_or a q 0) s)
+  y_word : y < 2 ^ 64
+  y_word = omega (arith, w q, shr_le (get_or a q 0) s)
 
   left : (i m : ℕ) → s + m < 64 → i ≡ q * 64 + s + m → has a i ≡ digit y m
-  left i m h ei = has-at a q (s + m) i h (omega arith) ∙ sym (digit_shift (get_or a q 0) s m) ∙ ap (λ (x : ℕ). digit x m) (sym e)
+  left i m h ei = has_at a q (s + m) i h (omega arith) ∙ sym (digit_shift (get_or a q 0) s m) ∙ ap (λ (x : ℕ). digit x m) (sym e)
 
   pub inside : 0 < y → s + count_trailing_zeros 64 y < 64
   inside p =
       ⊎_elim
       (λ (l : 64 ≤ s + count_trailing_zeros 64 y).
-      let z = digit-high 64 (s + count_trailing_zeros 64 y) (get_or a q 0) (w q) l in
-      let o = (trailing-lowest 64 y y-word p).0 in
+      let z = digit_high 64 (s + count_trailing_zeros 64 y) (get_or a q 0) (w q) l in
+      let o = (trailing_lowest 64 y y_word p).0 in
       let v : digit y (count_trailing_zeros 64 y) ≡ digit (get_or a q 0) (s + count_trailing_zeros 64 y) = ap (λ (x : ℕ). digit x (count_trailing_zeros 64 y)) e ∙ digit_shift (get_or a q 0) s (count_trailing_zeros 64 y) in
       absurd (omega arith))
       (λ l. l)
-      (le-or-lt 64 (s + count_trailing_zeros 64 y))
+      (le_or_lt 64 (s + count_trailing_zeros 64 y))
 
   pub found : 0 < y → (i : ℕ) → i ≡ q * 64 + s + count_trailing_zeros 64 y → has a i ≡ 1
-  found p i ei = left i (count_trailing_zeros 64 y) (inside p) ei ∙ (trailing-lowest 64 y y-word p).0
+  found p i ei = left i (count_trailing_zeros 64 y) (inside p) ei ∙ (trailing_lowest 64 y y_word p).0
 
   pub before : 0 < y → (j : ℕ) → q * 64 + s ≤ j → j < q * 64 + s + count_trailing_zeros 64 y → has a j ≡ 0
   before p j l h =
       let i = inside p in
-      left j (j - (q * 64 + s)) (omega arith) (omega arith) ∙ (trailing-lowest 64 y y-word p).1 (j - (q * 64 + s)) (omega arith)
+      left j (j - (q * 64 + s)) (omega arith) (omega arith) ∙ (trailing_lowest 64 y y_word p).1 (j - (q * 64 + s)) (omega arith)
 
   pub bare : y ≡ 0 → (j : ℕ) → q * 64 + s ≤ j → j < (q + 1) * 64 → has a j ≡ 0
   bare z j l h = left j (j - (q * 64 + s)) (omega arith) (omega arith) ∙ rw (z, zero-div)
@@ -91,29 +91,29 @@ past_end a j h = rw (get_or-eq_default a 0 {n = j / 64} (omega arith), zero-div)
 
 -- ---- one id more
 
-pub pow-digit-same : (k : ℕ) → digit (2 ^ k) k ≡ 1
-pow-digit-same zero = refl
-pow-digit-same (suc k) =
+pub pow_digit_same : (k : ℕ) → digit (2 ^ k) k ≡ 1
+pow_digit_same zero = refl
+pow_digit_same (suc k) =
     let half : 2 ^ suc k / 2 ≡ 2 ^ k = omega (arith, pow-suc 2 k) in
-    digit-suc (2 ^ suc k) k ∙ rw half (pow-digit-same k)
+    digit_suc (2 ^ suc k) k ∙ rw half (pow_digit_same k)
 
-pub pow-digit-other : (m k : ℕ) → (k ≡ m → ⊥) → digit (2 ^ m) k ≡ 0
-pow-digit-other zero zero h = absurd (h refl)
-pow-digit-other zero (suc k) h = digit-suc 1 k ∙ rw zero-div
-pow-digit-other (suc m) zero h = omega (arith, pow-suc 2 m)
-pow-digit-other (suc m) (suc k) h =
+pub pow_digit_other : (m k : ℕ) → (k ≡ m → ⊥) → digit (2 ^ m) k ≡ 0
+pow_digit_other zero zero h = absurd (h refl)
+pow_digit_other zero (suc k) h = digit_suc 1 k ∙ rw zero-div
+pow_digit_other (suc m) zero h = omega (arith, pow-suc 2 m)
+pow_digit_other (suc m) (suc k) h =
     let half : 2 ^ suc m / 2 ≡ 2 ^ m = omega (arith, pow-suc 2 m) in
-    digit-suc (2 ^ suc m) k ∙ rw half (pow-digit-other m k (λ e. h (ap suc e)))
+    digit_suc (2 ^ suc m) k ∙ rw half (pow_digit_other m k (λ e. h (ap suc e)))
 
-pub has-inserted : (s : List ℕ) (i : ℕ) → i < length s * 64 → has (inserted s i) i ≡ 1
-has-inserted s i h =
-    rw (get_or-set_same s (i / 64) (bit_or (get_or s (i / 64) 0) (2 ^ (i % 64))) 0 (omega arith), or-digit, pow-digit-same) (omega arith)
+pub has_inserted : (s : List ℕ) (i : ℕ) → i < length s * 64 → has (inserted s i) i ≡ 1
+has_inserted s i h =
+    rw (get_or-set_same s (i / 64) (bit_or (get_or s (i / 64) 0) (2 ^ (i % 64))) 0 (omega arith), or_digit, pow_digit_same) (omega arith)
 
-pub has-kept : (s : List ℕ) (i j : ℕ) → i < length s * 64 → (j ≡ i → ⊥) → has (inserted s i) j ≡ has s j
-has-kept s i j h ne =
+pub has_kept : (s : List ℕ) (i j : ℕ) → i < length s * 64 → (j ≡ i → ⊥) → has (inserted s i) j ≡ has s j
+has_kept s i j h ne =
     ⊎_elim
     (λ (e : j / 64 ≡ i / 64).
     let o : j % 64 ≡ i % 64 → ⊥ = λ r. ne (omega arith) in
-    rw (e, get_or-set_same s (i / 64) (bit_or (get_or s (i / 64) 0) (2 ^ (i % 64))) 0 (omega arith), or-digit, pow-digit-other (i % 64) (j % 64) o) (omega arith))
+    rw (e, get_or-set_same s (i / 64) (bit_or (get_or s (i / 64) 0) (2 ^ (i % 64))) 0 (omega arith), or_digit, pow_digit_other (i % 64) (j % 64) o) (omega arith))
     (λ (e : j / 64 ≡ i / 64 → ⊥). rw (get_or-set_other s (i / 64) (j / 64) (bit_or (get_or s (i / 64) 0) (2 ^ (i % 64))) 0 e))
     (same_or_not (j / 64) (i / 64))

@@ -8,9 +8,9 @@ use mathlib.Core.List.{List, ◌∷◌}
 use lib.Ieee.{Float}
 use lib.ListN.{length, take, drop, length-replicate}
 use Rattle.paper.specs.Choice.{refuse}
-use Rattle.index_memory.proofs.Places.{part-is}
+use Rattle.index_memory.proofs.Places.{part_is}
 use Rattle.bitmaps.specs.Words.{size}
-use Rattle.bitmaps.proofs.Size.{size-le}
+use Rattle.bitmaps.proofs.Size.{size_le}
 use Rattle.bitmaps.proofs.Digits.{Words}
 use Rattle.counting_bitmap.specs.Layers.{empty, merged, fallen, merged_all, dropped_all}
 use Rattle.vector.specs.Finite.{all_finite}
@@ -21,35 +21,35 @@ use Rattle.candidates.specs.Gathering.{joined, union_of, faces_at, Query, target
 use Rattle.candidates.specs.declared.Gathered.{Gathered}
 
 -- a product, where the factors' names change
-pub times-by : (x a b a' b' : ℕ) → x ≡ a * b → a' ≡ a → b' ≡ b → x ≡ a' * b'
-times-by x a b a' b' e p q = rw (p, q) e
+pub times_by : (x a b a' b' : ℕ) → x ≡ a * b → a' ≡ a → b' ≡ b → x ≡ a' * b'
+times_by x a b a' b' e p q = rw (p, q) e
 
 -- whether 7 was answered
-pub was-finite : (b : Bool) (r : ℕ) → r ≡ refuse 7 b 0 → r ≡ 0 → b ≡ true
-was-finite true r e z = refl
-was-finite false r e z = absurd (omega arith)
+pub was_finite : (b : Bool) (r : ℕ) → r ≡ refuse 7 b 0 → r ≡ 0 → b ≡ true
+was_finite true r e z = refl
+was_finite false r e z = absurd (omega arith)
 
-pub was-not : (b : Bool) (r : ℕ) → r ≡ refuse 7 b 0 → (r ≡ 0 → ⊥) → b ≡ false
-was-not true r e z = absurd (z e)
-was-not false r e z = refl
+pub was_not : (b : Bool) (r : ℕ) → r ≡ refuse 7 b 0 → (r ≡ 0 → ⊥) → b ≡ false
+was_not true r e z = absurd (z e)
+was_not false r e z = refl
 
 -- ---- the two ways out of one basis
 
-pub union-is : (picks w : ℕ) (fs : List ℕ) (p p' : List Float) (s u : List ℕ) → s ≡ empty w → p' ≡ p → u ≡ joined (length s) fs s (slots picks p') → u ≡ union_of picks w fs p
+pub union_is : (picks w : ℕ) (fs : List ℕ) (p p' : List Float) (s u : List ℕ) → s ≡ empty w → p' ≡ p → u ≡ joined (length s) fs s (slots picks p') → u ≡ union_of picks w fs p
 unfolding union_of
-union-is picks w fs p p' s u es ep eu = rw (eu, ep, es, length-replicate)
+union_is picks w fs p p' s u es ep eu = rw (eu, ep, es, length-replicate)
 
 -- at most all ids fall off
-pub few-of : (d : ℕ) (s : List ℕ) → Words s → length s ≤ 1024 → d ≡ size s → d ≤ 65536
-few-of d s w l e = omega (arith, size-le s w)
+pub few_of : (d : ℕ) (s : List ℕ) → Words s → length s ≤ 1024 → d ≡ size s → d ≤ 65536
+few_of d s w l e = omega (arith, size_le s w)
 
 module _ (n w picks : ℕ) (bs : List Float) (fs : List ℕ) (t : List Float) (ls ls' : List ℕ) where
-  pub basis-bad : all_finite (projected bs t) ≡ false → BasisIs n w picks bs fs t ls (record { refusal = 7; dropped = 0 }) ls'
-  basis-bad e = record { answer = rw e; few = omega arith; layers = λ (z : ◌≡◌ {A = ℕ} 7 0). absurd (omega arith); dropped = λ (z : ◌≡◌ {A = ℕ} 7 0). absurd (omega arith) }
+  pub basis_bad : all_finite (projected bs t) ≡ false → BasisIs n w picks bs fs t ls (record { refusal = 7; dropped = 0 }) ls'
+  basis_bad e = record { answer = rw e; few = omega arith; layers = λ (z : ◌≡◌ {A = ℕ} 7 0). absurd (omega arith); dropped = λ (z : ◌≡◌ {A = ℕ} 7 0). absurd (omega arith) }
 
-  pub basis-good : (dr : ℕ) (u : List ℕ) → all_finite (projected bs t) ≡ true → dr ≤ 65536 → u ≡ union_of picks w fs (projected bs t)
+  pub basis_good : (dr : ℕ) (u : List ℕ) → all_finite (projected bs t) ≡ true → dr ≤ 65536 → u ≡ union_of picks w fs (projected bs t)
       → ls' ≡ merged n w ls u → dr ≡ size (fallen n w ls u) → BasisIs n w picks bs fs t ls (record { refusal = 0; dropped = dr }) ls'
-  basis-good dr u e f eu el ed =
+  basis_good dr u e f eu el ed =
       record { answer = rw e; few = f; layers = λ z. el ∙ ap (merged n w ls) eu; dropped = λ z. ed ∙ ap (λ (x : List ℕ). size (fallen n w ls x)) eu }
 
 -- ---- the answer for basis b, in the definitions' terms
@@ -58,19 +58,19 @@ module _ (q : Query) (n b p f w : ℕ) (ls ls' : List ℕ) (r : Gathered)
     (ep : p ≡ b * (length q.target * length q.target)) (ef : f ≡ b * (2 * length q.target * q.w)) (ew : w ≡ q.w)
     (o : BasisIs n w q.picks (take (p + length q.target * length q.target - p) (drop p q.bases)) (take (f + 2 * length q.target * q.w - f) (drop f q.faces)) q.target ls r ls') where
   one : BasisIs n q.w q.picks (basis_at q.bases (length q.target) b) (faces_at q.faces (length q.target) q.w b) q.target ls r ls'
-  one = rw (part-is b (length q.target * length q.target) p q.bases ep, part-is b (2 * length q.target * q.w) f q.faces ef, ew) at o
+  one = rw (part_is b (length q.target * length q.target) p q.bases ep, part_is b (2 * length q.target * q.w) f q.faces ef, ew) at o
 
-  pub one-answer : r.refusal ≡ refuse 7 (all_finite (target_on q b)) 0
+  pub one_answer : r.refusal ≡ refuse 7 (all_finite (target_on q b)) 0
   unfolding projection_at
-  one-answer = one.answer
+  one_answer = one.answer
 
-  pub one-layers : r.refusal ≡ 0 → ls' ≡ merged n q.w ls (union_at q b)
+  pub one_layers : r.refusal ≡ 0 → ls' ≡ merged n q.w ls (union_at q b)
   unfolding projection_at union_at
-  one-layers z = one.layers z
+  one_layers z = one.layers z
 
-  pub one-dropped : r.refusal ≡ 0 → r.dropped ≡ size (fallen n q.w ls (union_at q b))
+  pub one_dropped : r.refusal ≡ 0 → r.dropped ≡ size (fallen n q.w ls (union_at q b))
   unfolding projection_at union_at
-  one-dropped z = one.dropped z
+  one_dropped z = one.dropped z
 
 -- ---- what is left
 
@@ -78,30 +78,30 @@ module _ (q : Query) (n b : ℕ) (h : b < n) where
   more : n - b ≡ suc (n - (b + 1))
   more = omega arith
 
-  unions-more : unions_from q (n - b) b ≡ union_at q b ∷ unions_from q (n - (b + 1)) (b + 1)
+  unions_more : unions_from q (n - b) b ≡ union_at q b ∷ unions_from q (n - (b + 1)) (b + 1)
   unfolding unions_from
-  unions-more = rw (more, add-one)
+  unions_more = rw (more, add-one)
 
-  pub merged-more : (ls ls' : List ℕ) → ls' ≡ merged n q.w ls (union_at q b) → merged_all n q.w ls' (unions_from q (n - (b + 1)) (b + 1)) ≡ merged_all n q.w ls (unions_from q (n - b) b)
+  pub merged_more : (ls ls' : List ℕ) → ls' ≡ merged n q.w ls (union_at q b) → merged_all n q.w ls' (unions_from q (n - (b + 1)) (b + 1)) ≡ merged_all n q.w ls (unions_from q (n - b) b)
   unfolding merged_all
-  merged-more ls ls' e = rw (unions-more, e)
+  merged_more ls ls' e = rw (unions_more, e)
 
-  pub dropped-more : (ls ls' : List ℕ) → ls' ≡ merged n q.w ls (union_at q b) → dropped_all n q.w ls (unions_from q (n - b) b) ≡ size (fallen n q.w ls (union_at q b)) + dropped_all n q.w ls' (unions_from q (n - (b + 1)) (b + 1))
+  pub dropped_more : (ls ls' : List ℕ) → ls' ≡ merged n q.w ls (union_at q b) → dropped_all n q.w ls (unions_from q (n - b) b) ≡ size (fallen n q.w ls (union_at q b)) + dropped_all n q.w ls' (unions_from q (n - (b + 1)) (b + 1))
   unfolding dropped_all
-  dropped-more ls ls' e = rw (unions-more, e)
+  dropped_more ls ls' e = rw (unions_more, e)
 
 module _ (q : Query) (n : ℕ) where
-  pub gather-stopped : (ls : List ℕ) → target_finite q n ≡ false → GatherIs n q (record { refusal = 7; dropped = 0 }) ls
-  gather-stopped ls e =
+  pub gather_stopped : (ls : List ℕ) → target_finite q n ≡ false → GatherIs n q (record { refusal = 7; dropped = 0 }) ls
+  gather_stopped ls e =
       record { answer = rw e; layers = λ (z : ◌≡◌ {A = ℕ} 7 0). absurd (omega arith); dropped = λ (z : ◌≡◌ {A = ℕ} 7 0). absurd (omega arith) }
 
-  pub gather-ended : (b : ℕ) (ls : List ℕ) (total : ℕ) → n ≤ b → b ≤ n
+  pub gather_ended : (b : ℕ) (ls : List ℕ) (total : ℕ) → n ≤ b → b ≤ n
       → target_finite q b ≡ true
       → merged_all n q.w ls (unions_from q (n - b) b) ≡ layers_of n q
       → total + dropped_all n q.w ls (unions_from q (n - b) b) ≡ dropped_of n q
       → GatherIs n q (record { refusal = 0; dropped = total }) ls
   unfolding unions_from merged_all dropped_all
-  gather-ended b ls total h l i m d =
+  gather_ended b ls total h l i m d =
       let z : n - b ≡ 0 = omega arith in
       let e : n ≡ b = omega arith in
       let yes : target_finite q n ≡ true = ap (target_finite q) e ∙ i in

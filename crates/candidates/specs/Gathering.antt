@@ -73,14 +73,14 @@ dropped_of n q = dropped_all n q.w (empty (n * q.w)) (unions_from q n 0)
 -- ---- what the calls ask and give
 
 pub record SpillArgs (lf w : ℕ) (p : List Float) : Type 0 where
-  pub w-high : w ≤ 1024
+  pub w_high : w ≤ 1024
   pub faces : lf ≡ 2 * length p * w
-  pub has-face : HasFace p
+  pub has_face : HasFace p
 
 pub record BasisArgs (n lb lf lt lw ll w : ℕ) : Type 0 where
-  pub d-low : 1 ≤ lt
-  pub d-high : lt ≤ 1024
-  pub w-high : w ≤ 1024
+  pub d_low : 1 ≤ lt
+  pub d_high : lt ≤ 1024
+  pub w_high : w ≤ 1024
   pub bases : lb ≡ lt * lt
   pub faces : lf ≡ 2 * lt * w
   pub work : lw ≡ lt
@@ -94,10 +94,10 @@ pub record BasisIs (n w picks : ℕ) (bs : List Float) (fs : List ℕ) (t : List
   pub dropped : r.refusal ≡ 0 → r.dropped ≡ size (fallen n w ls (union_of picks w fs (projected bs t)))
 
 pub record GatherArgs (n lb lf lt lw ll w : ℕ) : Type 0 where
-  pub n-high : n ≤ 32
-  pub d-low : 1 ≤ lt
-  pub d-high : lt ≤ 1024
-  pub w-high : w ≤ 1024
+  pub n_high : n ≤ 32
+  pub d_low : 1 ≤ lt
+  pub d_high : lt ≤ 1024
+  pub w_high : w ≤ 1024
   pub bases : lb ≡ n * (lt * lt)
   pub faces : lf ≡ n * (2 * lt * w)
   pub work : lw ≡ lt

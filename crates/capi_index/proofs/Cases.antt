@@ -14,31 +14,31 @@ use Rattle.result.specs.Sets.{empty_set}
 use Rattle.result.specs.declared.ResultSet.{ResultSet}
 use Rattle.result.specs.declared.Fed.{Fed}
 use Rattle.result.proofs.Answers.{form}
-use Rattle.result.proofs.Keeps.{Sound, empty-k}
-use Rattle.result.proofs.Grown.{all-k}
+use Rattle.result.proofs.Keeps.{Sound, empty_k}
+use Rattle.result.proofs.Grown.{all_k}
 use Rattle.backend_memory.specs.Ranking.{scored, similarity_of, rank_of, nearest_of}
 use Rattle.backend_memory.specs.Scan.{scan_of}
-use Rattle.backend_memory.proofs.Counts.{rank-fed, scan-ranks}
-use Rattle.backend_memory.proofs.Cases.{scan-sound, scan-accepted}
+use Rattle.backend_memory.proofs.Counts.{rank_fed, scan_ranks}
+use Rattle.backend_memory.proofs.Cases.{scan_sound, scan_accepted}
 use Rattle.candidates.specs.Gathering.{layers_of}
 use Rattle.vector_store.specs.Search.{Work, Searched, searched_by, search_of}
 use Rattle.vector_store.specs.declared.Nearest.{Nearest}
-use Rattle.vector_store.proofs.Answers.{search-accepted, search-sound}
+use Rattle.vector_store.proofs.Answers.{search_accepted, search_sound}
 use Rattle.capi_vectors.specs.Single.{laid_over}
 use Rattle.capi_sets.specs.Lists.{Outs, outs, room_in, Listed, listed, into_fed, Fits}
 use Rattle.capi_index.specs.Searches.{into_nearest, scan_into, found, search_into}
 
 -- ---- a list into its arrays
 
-pub nearest-kept : (a : Nearest) (o : Outs) → (a.refusal ≡ 0 → ⊥) → listed a.refusal o ≡ into_nearest a o
+pub nearest_kept : (a : Nearest) (o : Outs) → (a.refusal ≡ 0 → ⊥) → listed a.refusal o ≡ into_nearest a o
 unfolding into_nearest
-nearest-kept a o h = rw (ne_eqb a.refusal 0 h)
+nearest_kept a o h = rw (ne_eqb a.refusal 0 h)
 
-pub nearest-laid : (a : Nearest) (o : Outs) (is : List ℕ) (ss : List Float) (ts : List ℕ) → a.refusal ≡ 0
+pub nearest_laid : (a : Nearest) (o : Outs) (is : List ℕ) (ss : List Float) (ts : List ℕ) → a.refusal ≡ 0
     → is ≡ laid_over a.set.len a.set.ids o.ids → ss ≡ laid_over a.set.len a.set.sims o.scores → ts ≡ a.set.len ∷ a.set.checked ∷ a.dropped ∷ []
     → listed 0 (outs is ss ts) ≡ into_nearest a o
 unfolding into_nearest
-nearest-laid a o is ss ts e p q r = rw e (λ i. listed 0 (outs (p i) (q i) (r i)))
+nearest_laid a o is ss ts e p q r = rw e (λ i. listed 0 (outs (p i) (q i) (r i)))
 
 -- ---- an accepted answer has room in the arrays
 
@@ -48,63 +48,63 @@ fits s k li ls h e p q =
     record { small = omega (arith, f.short, f.small); ids = omega (arith, f.short); scores = omega (arith, f.short) }
 
 -- an accepted ranking's set is for k
-rank-k : (mode k : ℕ) (ids ms vs : List ℕ) (t : List Float) → (rank_of mode k ids ms vs t).refusal ≡ 0 → (rank_of mode k ids ms vs t).set.k ≡ k
-rank-k mode k ids ms vs t e =
-    ap (λ (s : ResultSet). s.k) (rank-fed mode k ids ms vs t e) ∙ all-k (empty_set k) (map (scored (similarity_of mode vs t)) (ids_of ids)) ∙ empty-k k
+rank_k : (mode k : ℕ) (ids ms vs : List ℕ) (t : List Float) → (rank_of mode k ids ms vs t).refusal ≡ 0 → (rank_of mode k ids ms vs t).set.k ≡ k
+rank_k mode k ids ms vs t e =
+    ap (λ (s : ResultSet). s.k) (rank_fed mode k ids ms vs t e) ∙ all_k (empty_set k) (map (scored (similarity_of mode vs t)) (ids_of ids)) ∙ empty_k k
 
 -- ---- a scan
 
-scan-k : (mode k : ℕ) (ms vs : List ℕ) (t : List Float) → (nearest_of mode k ms vs t).refusal ≡ 0 → (nearest_of mode k ms vs t).set.k ≡ k
-scan-k mode k ms vs t e =
-    let s = scan-ranks mode k ms vs t in
-    ap (λ (r : Fed). r.set.k) (sym s) ∙ rank-k mode k ms ms vs t (ap (λ (r : Fed). r.refusal) s ∙ e)
+scan_k : (mode k : ℕ) (ms vs : List ℕ) (t : List Float) → (nearest_of mode k ms vs t).refusal ≡ 0 → (nearest_of mode k ms vs t).set.k ≡ k
+scan_k mode k ms vs t e =
+    let s = scan_ranks mode k ms vs t in
+    ap (λ (r : Fed). r.set.k) (sym s) ∙ rank_k mode k ms ms vs t (ap (λ (r : Fed). r.refusal) s ∙ e)
 
 module _ (g : Geo) (ms vs : List ℕ) (t : List Float) (k : ℕ) where
-  scan-fits-it : (li ls : ℕ) → li ≡ k → ls ≡ k → (scan_of g ms vs t k).refusal ≡ 0 → Fits (scan_of g ms vs t k).set li ls
-  scan-fits-it li ls p q e =
-      let a = scan-accepted g ms vs t k e in
-      fits (scan_of g ms vs t k).set k li ls (scan-sound g ms vs t k)
-      (ap (λ (r : Fed). r.set.k) a ∙ scan-k g.mode k ms vs t (ap (λ (r : Fed). r.refusal) (sym a) ∙ e)) p q
+  scan_fits_it : (li ls : ℕ) → li ≡ k → ls ≡ k → (scan_of g ms vs t k).refusal ≡ 0 → Fits (scan_of g ms vs t k).set li ls
+  scan_fits_it li ls p q e =
+      let a = scan_accepted g ms vs t k e in
+      fits (scan_of g ms vs t k).set k li ls (scan_sound g ms vs t k)
+      (ap (λ (r : Fed). r.set.k) a ∙ scan_k g.mode k ms vs t (ap (λ (r : Fed). r.refusal) (sym a) ∙ e)) p q
 
-  pub scan-fits : (f : Fed) (li ls : ℕ) → f ≡ scan_of g ms vs t k → li ≡ k → ls ≡ k → f.refusal ≡ 0 → Fits f.set li ls
-  scan-fits f li ls e p q h = rw e (scan-fits-it li ls p q (ap (λ (r : Fed). r.refusal) (sym e) ∙ h))
+  pub scan_fits : (f : Fed) (li ls : ℕ) → f ≡ scan_of g ms vs t k → li ≡ k → ls ≡ k → f.refusal ≡ 0 → Fits f.set li ls
+  scan_fits f li ls e p q h = rw e (scan_fits_it li ls p q (ap (λ (r : Fed). r.refusal) (sym e) ∙ h))
 
   module _ (o : Outs) where
-    pub scan-geometry : geo_ok g.d g.n g.cap g.mode ≡ false → listed 1 o ≡ scan_into g ms vs t k o
+    pub scan_geometry : geo_ok g.d g.n g.cap g.mode ≡ false → listed 1 o ≡ scan_into g ms vs t k o
     unfolding scan_into
-    scan-geometry h = rw h
+    scan_geometry h = rw h
 
-    pub scan-room : geo_ok g.d g.n g.cap g.mode ≡ true → room_in k 2 o ≡ false → listed 2 o ≡ scan_into g ms vs t k o
+    pub scan_room : geo_ok g.d g.n g.cap g.mode ≡ true → room_in k 2 o ≡ false → listed 2 o ≡ scan_into g ms vs t k o
     unfolding scan_into
-    scan-room h r = rw (h, r)
+    scan_room h r = rw (h, r)
 
-    pub scan-into : (f : Fed) (l : Listed) → geo_ok g.d g.n g.cap g.mode ≡ true → room_in k 2 o ≡ true → f ≡ scan_of g ms vs t k → l ≡ into_fed f o → l ≡ scan_into g ms vs t k o
+    pub scan_into_lem : (f : Fed) (l : Listed) → geo_ok g.d g.n g.cap g.mode ≡ true → room_in k 2 o ≡ true → f ≡ scan_of g ms vs t k → l ≡ into_fed f o → l ≡ scan_into g ms vs t k o
     unfolding scan_into
-    scan-into f l h r e q = rw (h, r, ← e) q
+    scan_into_lem f l h r e q = rw (h, r, ← e) q
 
 -- ---- a search
 
 module _ (g : Geo) (bs : List Float) (ix : Ix) (t : List Float) (k sk spill : ℕ) (m : Work) where
-  search-fits-it : (li ls : ℕ) → li ≡ k → ls ≡ k → (search_of g bs ix t k sk spill m).answer.refusal ≡ 0 → Fits (search_of g bs ix t k sk spill m).answer.set li ls
-  search-fits-it li ls p q e =
-      let a = search-accepted g bs ix t k sk spill m e in
+  search_fits_it : (li ls : ℕ) → li ≡ k → ls ≡ k → (search_of g bs ix t k sk spill m).answer.refusal ≡ 0 → Fits (search_of g bs ix t k sk spill m).answer.set li ls
+  search_fits_it li ls p q e =
+      let a = search_accepted g bs ix t k sk spill m e in
       let b = searched_by g bs ix t spill in
-      fits (search_of g bs ix t k sk spill m).answer.set k li ls (search-sound g bs ix t k sk spill m)
-      (ap (λ (s : ResultSet). s.k) a.ranked ∙ rank-k g.mode k (layer b.w (layers_of g.n b) a.at) ix.marks ix.vecs b.target a.good) p q
+      fits (search_of g bs ix t k sk spill m).answer.set k li ls (search_sound g bs ix t k sk spill m)
+      (ap (λ (s : ResultSet). s.k) a.ranked ∙ rank_k g.mode k (layer b.w (layers_of g.n b) a.at) ix.marks ix.vecs b.target a.good) p q
 
-  pub search-fits : (s : Searched) (li ls : ℕ) → s ≡ search_of g bs ix t k sk spill m → li ≡ k → ls ≡ k → s.answer.refusal ≡ 0 → Fits s.answer.set li ls
-  search-fits s li ls e p q h = rw e (search-fits-it li ls p q (ap (λ (r : Searched). r.answer.refusal) (sym e) ∙ h))
+  pub search_fits : (s : Searched) (li ls : ℕ) → s ≡ search_of g bs ix t k sk spill m → li ≡ k → ls ≡ k → s.answer.refusal ≡ 0 → Fits s.answer.set li ls
+  search_fits s li ls e p q h = rw e (search_fits_it li ls p q (ap (λ (r : Searched). r.answer.refusal) (sym e) ∙ h))
 
   module _ (o : Outs) where
-    pub search-geometry : geo_ok g.d g.n g.cap g.mode ≡ false → found 1 m o ≡ search_into g bs ix t k sk spill m o
+    pub search_geometry : geo_ok g.d g.n g.cap g.mode ≡ false → found 1 m o ≡ search_into g bs ix t k sk spill m o
     unfolding search_into
-    search-geometry h = rw h
+    search_geometry h = rw h
 
-    pub search-room : geo_ok g.d g.n g.cap g.mode ≡ true → room_in k 3 o ≡ false → found 2 m o ≡ search_into g bs ix t k sk spill m o
+    pub search_room : geo_ok g.d g.n g.cap g.mode ≡ true → room_in k 3 o ≡ false → found 2 m o ≡ search_into g bs ix t k sk spill m o
     unfolding search_into
-    search-room h r = rw (h, r)
+    search_room h r = rw (h, r)
 
-    pub search-into : (s : Searched) (l : Listed) → geo_ok g.d g.n g.cap g.mode ≡ true → room_in k 3 o ≡ true → s ≡ search_of g bs ix t k sk spill m
+    pub search_into_lem : (s : Searched) (l : Listed) → geo_ok g.d g.n g.cap g.mode ≡ true → room_in k 3 o ≡ true → s ≡ search_of g bs ix t k sk spill m
         → l ≡ into_nearest s.answer o → found l.answer s.memory l.out ≡ search_into g bs ix t k sk spill m o
     unfolding search_into
-    search-into s l h r e q = rw (h, r, ← e) (λ i. found (q i).answer s.memory (q i).out)
+    search_into_lem s l h r e q = rw (h, r, ← e) (λ i. found (q i).answer s.memory (q i).out)

@@ -15,62 +15,62 @@ use Rattle.result.specs.Places.{entries}
 use Rattle.result.specs.Sets.{empty_set, answer, made_of, fed_set, feed_refusal, feed_of, feed_all_of}
 use Rattle.result.specs.declared.ResultSet.{ResultSet}
 use Rattle.result.specs.declared.Fed.{Fed}
-use Rattle.result.proofs.Keeps.{fed-k, fed-within, empty-k, empty-len}
+use Rattle.result.proofs.Keeps.{fed_k, fed_within, empty_k, empty_len}
 use Rattle.capi_sets.specs.Lists.{Outs, room_in, Listed, listed, into_fed, feeding_of, feed_into, Fits}
 
 -- ---- a turn
 
 -- the pairs from place i on begin with the pair at i
-pairs-turn : (i m : ℕ) (is : List ℕ) (ss : List Float) (d : ℕ) (z : Float) → i < length is → i < length ss
+pairs_turn : (i m : ℕ) (is : List ℕ) (ss : List Float) (d : ℕ) (z : Float) → i < length is → i < length ss
     → entries (suc m) (drop i is) (drop i ss) ≡ entry (get_or is i d) (get_or ss i z) ∷ entries m (drop (suc i) is) (drop (suc i) ss)
-pairs-turn i m [] ss d z h l = absurd (not-suc-le-zero h)
-pairs-turn i m (x ∷ is) [] d z h l = absurd (not-suc-le-zero l)
-pairs-turn zero m (x ∷ is) (y ∷ ss) d z h l = refl
-pairs-turn (suc i) m (x ∷ is) (y ∷ ss) d z h l =
+pairs_turn i m [] ss d z h l = absurd (not-suc-le-zero h)
+pairs_turn i m (x ∷ is) [] d z h l = absurd (not-suc-le-zero l)
+pairs_turn zero m (x ∷ is) (y ∷ ss) d z h l = refl
+pairs_turn (suc i) m (x ∷ is) (y ∷ ss) d z h l =
     let h' : i < length is = omega arith in
     let l' : i < length ss = omega arith in
-    pairs-turn i m is ss d z h' l'
+    pairs_turn i m is ss d z h' l'
 
 -- what is left to feed from place i on
 abbrev pub rest : ℕ → List ℕ → List Float → List Entry
 rest i is ss = entries (length is - i) (drop i is) (drop i ss)
 
-rest-turn : (i : ℕ) (is : List ℕ) (ss : List Float) (d : ℕ) (z : Float) → i < length is → length is ≡ length ss → rest i is ss ≡ entry (get_or is i d) (get_or ss i z) ∷ rest (i + 1) is ss
-rest-turn i is ss d z h l =
+rest_turn : (i : ℕ) (is : List ℕ) (ss : List Float) (d : ℕ) (z : Float) → i < length is → length is ≡ length ss → rest i is ss ≡ entry (get_or is i d) (get_or ss i z) ∷ rest (i + 1) is ss
+rest_turn i is ss d z h l =
     let n : length is - i ≡ suc (length is - (i + 1)) = omega arith in
     let s : suc i ≡ i + 1 = omega arith in
     let l' : i < length ss = omega arith in
-    ap (λ (m : ℕ). entries m (drop i is) (drop i ss)) n ∙ pairs-turn i (length is - (i + 1)) is ss d z h l'
+    ap (λ (m : ℕ). entries m (drop i is) (drop i ss)) n ∙ pairs_turn i (length is - (i + 1)) is ss d z h l'
     ∙ ap (λ (j : ℕ). entry (get_or is i d) (get_or ss i z) ∷ entries (length is - (i + 1)) (drop j is) (drop j ss)) s
 
 module _ (s : ResultSet) (i : ℕ) (is : List ℕ) (ss : List Float) (d : ℕ) (z : Float) (h : i < length is) (l : length is ≡ length ss) (f : Fed) (e : f ≡ feed_of s (get_or is i d) (get_or ss i z)) where
   -- a refused feed ends it
-  pub feed-ends : (f.refusal ≡ 0 → ⊥) → f ≡ feed_all_of s (rest i is ss)
-  feed-ends h' =
+  pub feed_ends : (f.refusal ≡ 0 → ⊥) → f ≡ feed_all_of s (rest i is ss)
+  feed_ends h' =
       let k : f ≡ feed_all_of s (entry (get_or is i d) (get_or ss i z) ∷ rest (i + 1) is ss) = rw (← e, ne_eqb f.refusal 0 h') in
-      k ∙ ap (feed_all_of s) (sym (rest-turn i is ss d z h l))
+      k ∙ ap (feed_all_of s) (sym (rest_turn i is ss d z h l))
 
   -- an accepted one goes on with the set that it gave
-  pub feed-goes : f.refusal ≡ 0 → feed_all_of f.set (rest (i + 1) is ss) ≡ feed_all_of s (rest i is ss)
-  feed-goes h' =
+  pub feed_goes : f.refusal ≡ 0 → feed_all_of f.set (rest (i + 1) is ss) ≡ feed_all_of s (rest i is ss)
+  feed_goes h' =
       let k : feed_all_of f.set (rest (i + 1) is ss) ≡ feed_all_of s (entry (get_or is i d) (get_or ss i z) ∷ rest (i + 1) is ss) = rw (← e, eq-eqb f.refusal 0 h') in
-      k ∙ ap (feed_all_of s) (sym (rest-turn i is ss d z h l))
+      k ∙ ap (feed_all_of s) (sym (rest_turn i is ss d z h l))
 
 -- nothing is left
-pub feed-over : (s : ResultSet) (i : ℕ) (is : List ℕ) (ss : List Float) → length is ≤ i → answer 0 s ≡ feed_all_of s (rest i is ss)
-feed-over s i is ss h =
+pub feed_over : (s : ResultSet) (i : ℕ) (is : List ℕ) (ss : List Float) → length is ≤ i → answer 0 s ≡ feed_all_of s (rest i is ss)
+feed_over s i is ss h =
     let n : length is - i ≡ 0 = omega arith in
     sym (ap (λ (m : ℕ). feed_all_of s (entries m (drop i is) (drop i ss))) n)
 
 -- ---- a new set, fed
 
-pub made-refused : (k : ℕ) (is : List ℕ) (ss : List Float) (m : Fed) → m ≡ made_of k → (m.refusal ≡ 0 → ⊥) → m ≡ feeding_of k is ss
+pub made_refused : (k : ℕ) (is : List ℕ) (ss : List Float) (m : Fed) → m ≡ made_of k → (m.refusal ≡ 0 → ⊥) → m ≡ feeding_of k is ss
 unfolding feeding_of
-made-refused k is ss m e h = rw (← e, ne_eqb m.refusal 0 h)
+made_refused k is ss m e h = rw (← e, ne_eqb m.refusal 0 h)
 
-pub made-fed : (k : ℕ) (is : List ℕ) (ss : List Float) (m r : Fed) → m ≡ made_of k → m.refusal ≡ 0 → r ≡ feed_all_of m.set (entries (length is) is ss) → r ≡ feeding_of k is ss
+pub made_fed : (k : ℕ) (is : List ℕ) (ss : List Float) (m r : Fed) → m ≡ made_of k → m.refusal ≡ 0 → r ≡ feed_all_of m.set (entries (length is) is ss) → r ≡ feeding_of k is ss
 unfolding feeding_of
-made-fed k is ss m r e h q = rw (← e, eq-eqb m.refusal 0 h) q
+made_fed k is ss m r e h q = rw (← e, eq-eqb m.refusal 0 h) q
 
 -- ---- its list is within k
 
@@ -78,35 +78,35 @@ record Within (k : ℕ) (s : ResultSet) : Type 0 where
   pub of : s.k ≡ k
   pub len : s.len ≤ k
 
-within-fed : (k : ℕ) (s : ResultSet) (e : Entry) → Within k s → Within k (fed_set s e)
-within-fed k s e w =
+within_fed : (k : ℕ) (s : ResultSet) (e : Entry) → Within k s → Within k (fed_set s e)
+within_fed k s e w =
     let o = w.of in
     let n : s.len ≤ s.k = omega (arith, w.len) in
-    record { of = fed-k s e ∙ o; len = omega (arith, fed-within s e n) }
+    record { of = fed_k s e ∙ o; len = omega (arith, fed_within s e n) }
 
-within-feed : (k : ℕ) (s : ResultSet) (id : ℕ) (score : Float) → Within k s → Within k (feed_of s id score).set
+within_feed : (k : ℕ) (s : ResultSet) (id : ℕ) (score : Float) → Within k s → Within k (feed_of s id score).set
 unfolding feed_of
-within-feed k s id score w = by (eqb (feed_refusal s score) 0)
+within_feed k s id score w = by (eqb (feed_refusal s score) 0)
   where
     by : (b : Bool) → Within k (pick b (fed_set s (entry id score)) s)
-    by true = within-fed k s (entry id score) w
+    by true = within_fed k s (entry id score) w
     by false = w
 
 within_all : (k : ℕ) (s : ResultSet) (es : List Entry) → Within k s → Within k (feed_all_of s es).set
 within_all k s [] w = w
-within_all k s (e ∷ es) w = by (eqb (feed_of s e.key e.sim).refusal 0) (within_all k (feed_of s e.key e.sim).set es (within-feed k s e.key e.sim w))
+within_all k s (e ∷ es) w = by (eqb (feed_of s e.key e.sim).refusal 0) (within_all k (feed_of s e.key e.sim).set es (within_feed k s e.key e.sim w))
   where
     by : (b : Bool) → Within k (feed_all_of (feed_of s e.key e.sim).set es).set
         → Within k (pick b (feed_all_of (feed_of s e.key e.sim).set es) (feed_of s e.key e.sim)).set
     by true go = go
-    by false go = within-feed k s e.key e.sim w
+    by false go = within_feed k s e.key e.sim w
 
 not4 : ◌≡◌ {A = ℕ} 4 0 → ⊥
 not4 e = omega arith
 
-fits-it : (k : ℕ) (is : List ℕ) (ss : List Float) (li ls : ℕ) → li ≡ k → ls ≡ k → (feeding_of k is ss).refusal ≡ 0 → Fits (feeding_of k is ss).set li ls
+fits_it : (k : ℕ) (is : List ℕ) (ss : List Float) (li ls : ℕ) → li ≡ k → ls ≡ k → (feeding_of k is ss).refusal ≡ 0 → Fits (feeding_of k is ss).set li ls
 unfolding feeding_of made_of
-fits-it k is ss li ls p q e = by (leb k 256) refl e
+fits_it k is ss li ls p q e = by (leb k 256) refl e
   where
     es : List Entry
     es = entries (length is) is ss
@@ -116,25 +116,25 @@ fits-it k is ss li ls p q e = by (leb k 256) refl e
         → Fits (pick (eqb (pick b 0 4) 0) (feed_all_of (empty_set (pick b k 0)) es) (answer (pick b 0 4) (empty_set (pick b k 0)))).set li ls
     by false h e = absurd (not4 e)
     by true h e =
-        let n : (empty_set k).len ≤ k = omega (arith, empty-len k) in
-        let w = within_all k (empty_set k) es (record { of = empty-k k; len = n }) in
+        let n : (empty_set k).len ≤ k = omega (arith, empty_len k) in
+        let w = within_all k (empty_set k) es (record { of = empty_k k; len = n }) in
         let m = leb-true k 256 h in
         record { small = omega (arith, w.len); ids = omega (arith, w.len); scores = omega (arith, w.len) }
 
-pub feed-fits : (k : ℕ) (is : List ℕ) (ss : List Float) (f : Fed) (li ls : ℕ) → f ≡ feeding_of k is ss → li ≡ k → ls ≡ k → f.refusal ≡ 0 → Fits f.set li ls
-feed-fits k is ss f li ls e p q h = rw e (fits-it k is ss li ls p q (ap (λ (r : Fed). r.refusal) (sym e) ∙ h))
+pub feed_fits : (k : ℕ) (is : List ℕ) (ss : List Float) (f : Fed) (li ls : ℕ) → f ≡ feeding_of k is ss → li ≡ k → ls ≡ k → f.refusal ≡ 0 → Fits f.set li ls
+feed_fits k is ss f li ls e p q h = rw e (fits_it k is ss li ls p q (ap (λ (r : Fed). r.refusal) (sym e) ∙ h))
 
 -- ---- the call
 
 module _ (k : ℕ) (is : List ℕ) (ss : List Float) (o : Outs) where
-  pub feed-unequal : (length is ≡ length ss → ⊥) → listed 2 o ≡ feed_into k is ss o
+  pub feed_unequal : (length is ≡ length ss → ⊥) → listed 2 o ≡ feed_into k is ss o
   unfolding feed_into
-  feed-unequal h = rw (ne_eqb (length is) (length ss) h)
+  feed_unequal h = rw (ne_eqb (length is) (length ss) h)
 
-  pub feed-room : length is ≡ length ss → room_in k 2 o ≡ false → listed 2 o ≡ feed_into k is ss o
+  pub feed_room : length is ≡ length ss → room_in k 2 o ≡ false → listed 2 o ≡ feed_into k is ss o
   unfolding feed_into
-  feed-room h r = rw (eq-eqb (length is) (length ss) h, r)
+  feed_room h r = rw (eq-eqb (length is) (length ss) h, r)
 
-  pub feed-into : (f : Fed) (l : Listed) → length is ≡ length ss → room_in k 2 o ≡ true → f ≡ feeding_of k is ss → l ≡ into_fed f o → l ≡ feed_into k is ss o
+  pub feed_into_lem : (f : Fed) (l : Listed) → length is ≡ length ss → room_in k 2 o ≡ true → f ≡ feeding_of k is ss → l ≡ into_fed f o → l ≡ feed_into k is ss o
   unfolding feed_into
-  feed-into f l h r e q = rw (eq-eqb (length is) (length ss) h, r, ← e) q
+  feed_into_lem f l h r e q = rw (eq-eqb (length is) (length ss) h, r, ← e) q

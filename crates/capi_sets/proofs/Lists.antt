@@ -13,15 +13,15 @@ use Rattle.capi_sets.specs.Lists.{Outs, outs, room_ok, listed, into_fed}
 
 -- ---- a list into its arrays
 
-pub fed-kept : (f : Fed) (o : Outs) → (f.refusal ≡ 0 → ⊥) → listed f.refusal o ≡ into_fed f o
+pub fed_kept : (f : Fed) (o : Outs) → (f.refusal ≡ 0 → ⊥) → listed f.refusal o ≡ into_fed f o
 unfolding into_fed
-fed-kept f o h = rw (ne_eqb f.refusal 0 h)
+fed_kept f o h = rw (ne_eqb f.refusal 0 h)
 
-pub fed-laid : (f : Fed) (o : Outs) (is : List ℕ) (ss : List Float) (ts : List ℕ) → f.refusal ≡ 0
+pub fed_laid : (f : Fed) (o : Outs) (is : List ℕ) (ss : List Float) (ts : List ℕ) → f.refusal ≡ 0
     → is ≡ laid_over f.set.len f.set.ids o.ids → ss ≡ laid_over f.set.len f.set.sims o.scores → ts ≡ f.set.len ∷ f.set.checked ∷ []
     → listed 0 (outs is ss ts) ≡ into_fed f o
 unfolding into_fed
-fed-laid f o is ss ts e p q r = rw e (λ i. listed 0 (outs (p i) (q i) (r i)))
+fed_laid f o is ss ts e p q r = rw e (λ i. listed 0 (outs (p i) (q i) (r i)))
 
 -- ---- the arrays' room
 

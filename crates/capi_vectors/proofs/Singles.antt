@@ -7,10 +7,10 @@ use borrow.Author.Tests.{eq-eqb, ne_eqb}
 use Rattle.capi_vectors.specs.Single.{Single, single, kept, into_one}
 
 module _ {A : Type 0} (num : ℕ) (x : A) (ys : List A) where
-  pub one-length : (length ys ≡ 1 → ⊥) → single 2 ys ≡ into_one num x ys
+  pub one_length : (length ys ≡ 1 → ⊥) → single 2 ys ≡ into_one num x ys
   unfolding into_one
-  one-length h = rw (ne_eqb (length ys) 1 h)
+  one_length h = rw (ne_eqb (length ys) 1 h)
 
-  pub one-done : length ys ≡ 1 → (s : Single A) → s ≡ kept num x ys → s ≡ into_one num x ys
+  pub one_done : length ys ≡ 1 → (s : Single A) → s ≡ kept num x ys → s ≡ into_one num x ys
   unfolding into_one
-  one-done h s e = rw (eq-eqb (length ys) 1 h) e
+  one_done h s e = rw (eq-eqb (length ys) 1 h) e

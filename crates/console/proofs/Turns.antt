@@ -26,16 +26,16 @@ gap from end used = omega arith
 less : (n k : ℕ) → n - k ≡ suc n - suc k
 less n k = omega arith
 
-drop-take : (k n : ℕ) (l : List ℕ) → drop k (take n l) ≡ take (n - k) (drop k l)
-drop-take zero n l = let z : n ≡ n - 0 = omega arith in ap (λ (m : ℕ). take m l) z
-drop-take (suc k) zero l = let z : 0 ≡ 0 - suc k = omega arith in ap (λ (m : ℕ). take m (drop (suc k) l)) z
-drop-take (suc k) (suc n) [] = none (suc n - suc k)
-drop-take (suc k) (suc n) (x ∷ l) = drop-take k n l ∙ ap (λ (m : ℕ). take m (drop k l)) (less n k)
+drop_take : (k n : ℕ) (l : List ℕ) → drop k (take n l) ≡ take (n - k) (drop k l)
+drop_take zero n l = let z : n ≡ n - 0 = omega arith in ap (λ (m : ℕ). take m l) z
+drop_take (suc k) zero l = let z : 0 ≡ 0 - suc k = omega arith in ap (λ (m : ℕ). take m (drop (suc k) l)) z
+drop_take (suc k) (suc n) [] = none (suc n - suc k)
+drop_take (suc k) (suc n) (x ∷ l) = drop_take k n l ∙ ap (λ (m : ℕ). take m (drop k l)) (less n k)
 
 -- what is left of the bytes between two places when the first of them are used
-left-between : (from end used : ℕ) (buf : List ℕ) → drop used (between from end buf) ≡ between (from + used) end buf
-left-between from end used buf =
-    drop-take used (end - from) (drop from buf) ∙ ap (λ (l : List ℕ). take (end - from - used) l) (drop-drop used from buf)
+left_between : (from end used : ℕ) (buf : List ℕ) → drop used (between from end buf) ≡ between (from + used) end buf
+left_between from end used buf =
+    drop_take used (end - from) (drop from buf) ∙ ap (λ (l : List ℕ). take (end - from - used) l) (drop-drop used from buf)
     ∙ ap (λ (m : ℕ). take m (drop (from + used) buf)) (gap from end used)
 
 -- what was read stands behind what was left
@@ -59,18 +59,18 @@ module _ (pending : List ℕ) (st : State) (out : List ℕ) (f : Far) (q : f ≡
   unfolding next_of
   unwritten = refl
 
-  stops-over : f.stops ≡ true → over ≡ next_of pending st out (record { wrote = true; more = false; read = [] })
+  stops_over : f.stops ≡ true → over ≡ next_of pending st out (record { wrote = true; more = false; read = [] })
   unfolding next_of
-  stops-over s = subst (λ (x : Far). over ≡ next_by x pending (record { wrote = true; more = false; read = [] })) q (rw s refl)
+  stops_over s = subst (λ (x : Far). over ≡ next_by x pending (record { wrote = true; more = false; read = [] })) q (rw s refl)
 
-  full-on : f.stops ≡ false → f.waits ≡ false → on (left f pending) f.state ≡ next_of pending st out (record { wrote = true; more = false; read = [] })
+  full_on : f.stops ≡ false → f.waits ≡ false → on (left f pending) f.state ≡ next_of pending st out (record { wrote = true; more = false; read = [] })
   unfolding next_of
-  full-on s w = subst (λ (x : Far). on (left f pending) f.state ≡ next_by x pending (record { wrote = true; more = false; read = [] })) q (rw (s, w) refl)
+  full_on s w = subst (λ (x : Far). on (left f pending) f.state ≡ next_by x pending (record { wrote = true; more = false; read = [] })) q (rw (s, w) refl)
 
-  waits-on : (more : Bool) (read : List ℕ) → f.stops ≡ false → f.waits ≡ true
+  waits_on : (more : Bool) (read : List ℕ) → f.stops ≡ false → f.waits ≡ true
       → pick more (on (left f pending ++ read) f.state) over ≡ next_of pending st out (record { wrote = true; more = more; read = read })
   unfolding next_of
-  waits-on more read s w =
+  waits_on more read s w =
       subst (λ (x : Far). pick more (on (left f pending ++ read) f.state) over ≡ next_by x pending (record { wrote = true; more = more; read = read })) q (rw (s, w) refl)
 
 -- ---- a turn that meets its contract: what the call of feed, the reading and the places come to
@@ -81,7 +81,7 @@ module _ (from end : ℕ) (buf : List ℕ) (st : State) (out : List ℕ) (f : Fa
       → Turned (between from end buf) st out t buf
   ends t true g s l h = record {
     outside = record { wrote = true; more = false; read = [] };
-    next = rw g (stops-over (between from end buf) st out f q (s refl));
+    next = rw g (stops_over (between from end buf) st out f q (s refl));
     low = l;
     high = h;
   }
@@ -97,7 +97,7 @@ module _ (from end : ℕ) (buf : List ℕ) (st : State) (out : List ℕ) (f : Fa
       → t.from ≤ t.end → t.end ≤ length buf → Turned (between from end buf) st out t buf
   goes t g s w ef ee es l h = record {
     outside = record { wrote = true; more = false; read = [] };
-    next = rw (g, ef, ee, es, ← left-between from end f.used buf) (full-on (between from end buf) st out f q s w);
+    next = rw (g, ef, ee, es, ← left_between from end f.used buf) (full_on (between from end buf) st out f q s w);
     low = l;
     high = h;
   }
@@ -109,8 +109,8 @@ module _ (from end : ℕ) (buf : List ℕ) (st : State) (out : List ℕ) (f : Fa
   reads t rest buf' s w er ef es l h e = record {
     outside = record { wrote = true; more = t.goes; read = drop (end - rest) (take t.end buf') };
     next =
-        ap (λ (x : List ℕ × State). pick t.goes (on x.0 x.1) over) (pair_is (read_behind (end - rest) t.end buf' (left f (between from end buf)) l (e ∙ rw er (sym (left-between from end f.used buf)))) es)
-        ∙ waits-on (between from end buf) st out f q t.goes _ s w;
+        ap (λ (x : List ℕ × State). pick t.goes (on x.0 x.1) over) (pair_is (read_behind (end - rest) t.end buf' (left f (between from end buf)) l (e ∙ rw er (sym (left_between from end f.used buf)))) es)
+        ∙ waits_on (between from end buf) st out f q t.goes _ s w;
     low = omega (arith, ef);
     high = h;
   }
@@ -152,11 +152,11 @@ module _ (pending : List ℕ) (st : State) (out : List ℕ) (e : Outside) where
   ends_by true false true true t k es ew h = absurd (no _ _ (sym h))
   ends_by true false true false t k es ew h = ended pending st out es ew
 
-  pub turn-goes : (pending' : List ℕ) (st' : State) (reads : List (List ℕ)) (text : List ℕ) → next_of pending st out e ≡ on pending' st' → Played pending' st' reads text
+  pub turn_goes : (pending' : List ℕ) (st' : State) (reads : List (List ℕ)) (text : List ℕ) → next_of pending st out e ≡ on pending' st' → Played pending' st' reads text
       → Played pending st (taken (feed_of pending st out).waits e reads) (shown (feed_of pending st out) ++ text)
   unfolding next_of
-  turn-goes p' s' rs text h play = goes_by e.wrote (feed_of pending st out).stops (feed_of pending st out).waits e.more p' s' rs text refl refl h play
+  turn_goes p' s' rs text h play = goes_by e.wrote (feed_of pending st out).stops (feed_of pending st out).waits e.more p' s' rs text refl refl h play
 
-  pub turn-ends : e.wrote ≡ true → next_of pending st out e ≡ over → Played pending st [] (shown (feed_of pending st out) ++ last_of pending st out)
+  pub turn_ends : e.wrote ≡ true → next_of pending st out e ≡ over → Played pending st [] (shown (feed_of pending st out) ++ last_of pending st out)
   unfolding next_of last_of
-  turn-ends t h = ends_by e.wrote (feed_of pending st out).stops (feed_of pending st out).waits e.more t refl refl refl h
+  turn_ends t h = ends_by e.wrote (feed_of pending st out).stops (feed_of pending st out).waits e.more t refl refl refl h

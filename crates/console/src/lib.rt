@@ -1,7 +1,7 @@
 // The search program's reading and writing: records from standard input, lines to standard output, a buffer at a time.
 // What the records come to is all in the crate session. No contract can say which bytes a read or a write moves, so what the functions
-// here promise is what they do to the buffers. What a turn of the loop does of a run is proved (turn, and the laws turn-goes and turn-ends); that a
-// program of such turns prints the same however its input comes in is session's law (whole, plays, any-cut).
+// here promise is what they do to the buffers. What a turn of the loop does of a run is proved (turn, and the laws turn_goes and turn_ends); that a
+// program of such turns prints the same however its input comes in is session's law (whole, plays, any_cut).
 #![tactic(auto)]
 
 ghost use Rattle.std.specs.Prelude.{◌≡◌, ◌+◌, ◌-◌, ◌≤◌, length, take, drop};
@@ -138,7 +138,7 @@ fn turn(
 }
 
 // Reads all of standard input and prints what a run over it prints; it ends early where the run stops or where nothing more can be written.
-// What feed leaves of the input when it waits is less than a record (session's law part-short), so that there is always room to read more.
+// What feed leaves of the input when it waits is less than a record (session's law part_short), so that there is always room to read more.
 // Every turn reads at least a byte, or empties a full buffer (its law moves), or ends the run: the turns that are counted down, as a loop has to
 // be seen to end, are never used up.
 pub fn run(rt: HostRuntime) {

@@ -13,39 +13,39 @@ pub record Laws : Type 0 where
   pub counts : (n w : ℕ) (cs : List (List ℕ)) → Sized w cs → (id j : ℕ) → j < n
       → has (layer w (merged_all n w (empty (n * w)) cs) j) id ≡ min 1 (times cs id - j)
   -- the same as a question: layer j holds the ids in more than j of the merged sets
-  pub layer-holds : (n w : ℕ) (cs : List (List ℕ)) → Sized w cs → (id j : ℕ) → j < n
+  pub layer_holds : (n w : ℕ) (cs : List (List ℕ)) → Sized w cs → (id j : ℕ) → j < n
       → holds (layer w (merged_all n w (empty (n * w)) cs) j) id ≡ ltb j (times cs id)
   -- whatever the layers held: their counts and those of the sets are their counts afterwards and all dropped counts
-  pub counts-kept : (n w : ℕ) (ls : List ℕ) (cs : List (List ℕ)) → length ls ≡ n * w → Sized w cs
+  pub counts_kept : (n w : ℕ) (ls : List ℕ) (cs : List (List ℕ)) → length ls ≡ n * w → Sized w cs
       → sum_to n (λ i. size (layer w (merged_all n w ls cs) i)) + dropped_all n w ls cs ≡ sum_to n (λ i. size (layer w ls i)) + sizes cs
   -- from empty layers, the counts of all layers and all dropped counts make the sum of the sets' counts
-  pub counts-add-up : (n w : ℕ) (cs : List (List ℕ)) → Sized w cs
+  pub counts_add_up : (n w : ℕ) (cs : List (List ℕ)) → Sized w cs
       → sum_to n (λ i. size (layer w (merged_all n w (empty (n * w)) cs) i)) + dropped_all n w (empty (n * w)) cs ≡ sizes cs
   -- at most as many sets as there are layers, merged into empty ones: nothing is dropped
-  pub drops-nothing : (n w : ℕ) (cs : List (List ℕ)) → length cs ≤ n → Sized w cs → dropped_all n w (empty (n * w)) cs ≡ 0
+  pub drops_nothing : (n w : ℕ) (cs : List (List ℕ)) → length cs ≤ n → Sized w cs → dropped_all n w (empty (n * w)) cs ≡ 0
   -- place i of the counts is the count of layer i
-  pub counts-at : (n w i : ℕ) (ls : List ℕ) → i < n → get_or (counts_of n w ls) i 0 ≡ size (layer w ls i)
+  pub counts_at : (n w i : ℕ) (ls : List ℕ) → i < n → get_or (counts_of n w ls) i 0 ≡ size (layer w ls i)
   -- ---- the chosen layer, of whatever a call with search_k k answers
   -- a layer is the answer only if it has k ids and none above it has
-  pub chosen-is-highest : (cap n k : ℕ) (ls : List ℕ) (r : Chosen) → ChosenIs (layers_fault cap n (length ls)) (top_of n (cap / 64) ls k) r
+  pub chosen_is_highest : (cap n k : ℕ) (ls : List ℕ) (r : Chosen) → ChosenIs (layers_fault cap n (length ls)) (top_of n (cap / 64) ls k) r
       → (i : ℕ) → r ≡ Layer i → Highest n (cap / 64) ls k i
   -- and such a layer is the answer, unless 1 or 2 is
-  pub highest-is-chosen : (cap n k : ℕ) (ls : List ℕ) (r : Chosen) → ChosenIs (layers_fault cap n (length ls)) (top_of n (cap / 64) ls k) r
+  pub highest_is_chosen : (cap n k : ℕ) (ls : List ℕ) (r : Chosen) → ChosenIs (layers_fault cap n (length ls)) (top_of n (cap / 64) ls k) r
       → layers_fault cap n (length ls) ≡ 0 → (i : ℕ) → Highest n (cap / 64) ls k i → r ≡ Layer i
   -- 8 is the answer only if neither 1 nor 2 is and no layer has k ids
-  pub eight-is-too-few : (cap n k : ℕ) (ls : List ℕ) (r : Chosen) → ChosenIs (layers_fault cap n (length ls)) (top_of n (cap / 64) ls k) r
+  pub eight_is_too_few : (cap n k : ℕ) (ls : List ℕ) (r : Chosen) → ChosenIs (layers_fault cap n (length ls)) (top_of n (cap / 64) ls k) r
       → r ≡ Refused 8 → (layers_fault cap n (length ls) ≡ 0) × TooFew n (cap / 64) ls k
   -- and then it is
-  pub too-few-is-eight : (cap n k : ℕ) (ls : List ℕ) (r : Chosen) → ChosenIs (layers_fault cap n (length ls)) (top_of n (cap / 64) ls k) r
+  pub too_few_is_eight : (cap n k : ℕ) (ls : List ℕ) (r : Chosen) → ChosenIs (layers_fault cap n (length ls)) (top_of n (cap / 64) ls k) r
       → layers_fault cap n (length ls) ≡ 0 → TooFew n (cap / 64) ls k → r ≡ Refused 8
   -- search_k 0 picks the last layer, empty or not
-  pub zero-picks-last : (cap n : ℕ) (ls : List ℕ) (r : Chosen) → ChosenIs (layers_fault cap n (length ls)) (top_of n (cap / 64) ls 0) r
+  pub zero_picks_last : (cap n : ℕ) (ls : List ℕ) (r : Chosen) → ChosenIs (layers_fault cap n (length ls)) (top_of n (cap / 64) ls 0) r
       → layers_fault cap n (length ls) ≡ 0 → r ≡ Layer (n - 1)
   -- ---- the part that is handed back
   -- it is the highest layer with k ids,
-  pub part-of-highest : (cap n k : ℕ) (ls : List ℕ) → layers_fault cap n (length ls) ≡ 0 → (i : ℕ) → Highest n (cap / 64) ls k i
+  pub part_of_highest : (cap n k : ℕ) (ls : List ℕ) → layers_fault cap n (length ls) ≡ 0 → (i : ℕ) → Highest n (cap / 64) ls k i
       → top_part cap n ls k ≡ layer (cap / 64) ls i
   -- empty where there is none,
-  pub part-of-too-few : (cap n k : ℕ) (ls : List ℕ) → layers_fault cap n (length ls) ≡ 0 → TooFew n (cap / 64) ls k → top_part cap n ls k ≡ []
+  pub part_of_too_few : (cap n k : ℕ) (ls : List ℕ) → layers_fault cap n (length ls) ≡ 0 → TooFew n (cap / 64) ls k → top_part cap n ls k ≡ []
   -- and the last layer for search_k 0
-  pub zero-part-is-last : (cap n : ℕ) (ls : List ℕ) → layers_fault cap n (length ls) ≡ 0 → top_part cap n ls 0 ≡ layer (cap / 64) ls (n - 1)
+  pub zero_part_is_last : (cap n : ℕ) (ls : List ℕ) → layers_fault cap n (length ls) ≡ 0 → top_part cap n ls 0 ≡ layer (cap / 64) ls (n - 1)

@@ -30,15 +30,15 @@ rank x = units x * 2 + bit (positive x)
 
 -- ---- tests that agree
 
-same-ltb : (a b c d : ℕ) → (a < b → c < d) → (b ≤ a → d ≤ c) → ltb a b ≡ ltb c d
-same-ltb a b c d f g = go (ltb a b) refl
+same_ltb : (a b c d : ℕ) → (a < b → c < d) → (b ≤ a → d ≤ c) → ltb a b ≡ ltb c d
+same_ltb a b c d f g = go (ltb a b) refl
   where
     go : (t : Bool) → ltb a b ≡ t → t ≡ ltb c d
     go true e = sym (lt-ltb c d (f (ltb-true a b e)))
     go false e = sym (le-ltb c d (g (ltb-false a b e)))
 
-same-eqb : (a b c d : ℕ) → (a ≡ b → c ≡ d) → (c ≡ d → a ≡ b) → eqb a b ≡ eqb c d
-same-eqb a b c d f g = go (eqb a b) refl
+same_eqb : (a b c d : ℕ) → (a ≡ b → c ≡ d) → (c ≡ d → a ≡ b) → eqb a b ≡ eqb c d
+same_eqb a b c d f g = go (eqb a b) refl
   where
     go : (t : Bool) → eqb a b ≡ t → t ≡ eqb c d
     go true e = sym (eq-eqb c d (f (eqb-true a b e)))
@@ -53,15 +53,15 @@ module _ (a b p q k u v : ℕ) (P : 0 < p) (Q : 0 < q) (K : 0 < k) (hu : u * p �
   right : b * p * k ≡ v * (p * q)
   right = mul_right_comm b p k ∙ ap (λ (z : ℕ). z * p) (sym hv) ∙ mul_assoc v q p ∙ ap (λ (z : ℕ). v * z) (mul_comm q p)
 
-  cross-ltb : ltb (a * q) (b * p) ≡ ltb u v
-  cross-ltb =
-      same-ltb (a * q) (b * p) u v
+  cross_ltb : ltb (a * q) (b * p) ≡ ltb u v
+  cross_ltb =
+      same_ltb (a * q) (b * p) u v
       (λ h. lt_of_mul-lt-mul_right (p * q) (rw (← left, ← right) (mul-lt-mul_of_pos_right h K)))
       (λ h. le_of_mul-le-mul_right (rw (← left, ← right) (mul-le-mul_right k h)) (mul-pos P Q))
 
-  cross-eqb : eqb (a * q) (b * p) ≡ eqb u v
-  cross-eqb =
-      same-eqb (a * q) (b * p) u v
+  cross_eqb : eqb (a * q) (b * p) ≡ eqb u v
+  cross_eqb =
+      same_eqb (a * q) (b * p) u v
       (λ h. eq_of_mul-eq-mul_right (p * q) (mul-pos P Q) u v (sym left ∙ ap (λ (z : ℕ). z * k) h ∙ right))
       (λ h. eq_of_mul-eq-mul_right k K (a * q) (b * p) (left ∙ ap (λ (z : ℕ). z * (p * q)) h ∙ sym right))
 
@@ -84,18 +84,18 @@ whole (negsuc k) h a =
     subst (λ (z : ℕ). a * z / 2 ^ suc k * 2 ^ suc k ≡ a * z) (sym s) (rw (← mul_assoc) (ap (λ (z : ℕ). z * 2 ^ suc k) (mul-div_cancel (a * 2 ^ j) (pow_pos (suc k)))))
 
 -- what fits has an exponent of at least -149
-low-enough : (s : Bool) (m : ℕ) (e : ℤ) → T (fits binary32 (fin s m e)) → down e ≤ 2 ^ 149
+low_enough : (s : Bool) (m : ℕ) (e : ℤ) → T (fits binary32 (fin s m e)) → down e ≤ 2 ^ 149
 unfolding fits
-low-enough s zero (pos k) t = lit≤ tt
-low-enough s zero (negsuc k) t =
+low_enough s zero (pos k) t = lit≤ tt
+low_enough s zero (negsuc k) t =
     subst (λ (z : ℕ). z ≤ 2 ^ 149) (sym (sym (one-mul (2 ^ suc k)) ∙ eqb→eq (1 * 2 ^ suc k) 1 t)) (lit≤ tt)
-low-enough s (suc m) e t =
+low_enough s (suc m) e t =
     let a : Bool = eqb (suc m % 2) 1 && ltb (suc m) (2 ^ 24) in
     let b : Bool = leb (down e) (2 ^ 149) in
     leb→le (down e) (2 ^ 149) (and_r a b (and_l (a && b) (ltb (suc m * up e) (2 ^ 128 * down e)) t))
 
 exact : (s : Bool) (m : ℕ) (e : ℤ) → T (fits binary32 (fin s m e)) → units (fin s m e) * down e ≡ m * up e * 2 ^ 149
-exact s m e t = whole e (low-enough s m e t) (m * up e)
+exact s m e t = whole e (low_enough s m e t) (m * up e)
 
 -- ---- comparisons of absolute values
 
@@ -111,42 +111,42 @@ size_is true (suc m) e =
     let h : 0 < suc m * up e = mul-pos (suc-le-suc zero-le) (up_pos e) in
     rw (lt-ltb 0 (suc m * up e * 1 + 0 * down e) (omega arith), eqb-suc-zero m)
 
-below-is : (b c : Bool) (x y : ℕ) → (b ≡ true → x ≡ 0) → (c ≡ true → y ≡ 0) → below b x c y ≡ ltb x y
-below-is false false x y f g = refl
-below-is false true x y f g = sym (le-ltb x y (rw (g refl) zero-le))
-below-is true false x y f g = rw (f refl, zero-add)
-below-is true true x y f g = rw (f refl, g refl)
+below_is : (b c : Bool) (x y : ℕ) → (b ≡ true → x ≡ 0) → (c ≡ true → y ≡ 0) → below b x c y ≡ ltb x y
+below_is false false x y f g = refl
+below_is false true x y f g = sym (le-ltb x y (rw (g refl) zero-le))
+below_is true false x y f g = rw (f refl, zero-add)
+below_is true true x y f g = rw (f refl, g refl)
 
-level-is : (b c : Bool) (x y : ℕ) → (b ≡ true → x ≡ 0) → (c ≡ true → y ≡ 0) → level b x c y ≡ eqb x y
-level-is false false x y f g = and-true (eqb x y)
-level-is false true x y f g = rw (g refl) (and_self (eqb x 0))
-level-is true false x y f g = rw (f refl) (and-true (eqb 0 y))
-level-is true true x y f g = and-true (eqb x y)
+level_is : (b c : Bool) (x y : ℕ) → (b ≡ true → x ≡ 0) → (c ≡ true → y ≡ 0) → level b x c y ≡ eqb x y
+level_is false false x y f g = and-true (eqb x y)
+level_is false true x y f g = rw (g refl) (and_self (eqb x 0))
+level_is true false x y f g = rw (f refl) (and-true (eqb 0 y))
+level_is true true x y f g = and-true (eqb x y)
 
 none : (s : Bool) (m r d : ℕ) → kept s m ≡ true → m * r * d ≡ 0
 none false m r d h = absurd (subst T (sym h) tt)
 none true m r d h = rw (eqb-true m 0 h, zero-mul, zero-mul)
 
 module _ (s : Bool) (m : ℕ) (e : ℤ) (t : Bool) (n : ℕ) (d : ℤ) (X : T (fits binary32 (fin s m e))) (Y : T (fits binary32 (fin t n d))) where
-  lt-fin : lt (fin (kept s m) m e) (fin (kept t n) n d) ≡ ltb (m * up e * down d) (n * up d * down e)
+  lt_fin : lt (fin (kept s m) m e) (fin (kept t n) n d) ≡ ltb (m * up e * down d) (n * up d * down e)
   unfolding lt
-  lt-fin = below-is (kept s m) (kept t n) _ _ (none s m (up e) (down d)) (none t n (up d) (down e))
+  lt_fin = below_is (kept s m) (kept t n) _ _ (none s m (up e) (down d)) (none t n (up d) (down e))
 
-  size-lt : lt (size_of (fin s m e)) (size_of (fin t n d)) ≡ ltb (units (fin s m e)) (units (fin t n d))
-  size-lt =
+  size_lt : lt (size_of (fin s m e)) (size_of (fin t n d)) ≡ ltb (units (fin s m e)) (units (fin t n d))
+  size_lt =
       ap (λ (z : Float). lt z (size_of (fin t n d))) (size_is s m e) ∙ ap (lt (fin (kept s m) m e)) (size_is t n d)
-      ∙ lt-fin
-      ∙ cross-ltb (m * up e) (n * up d) (down e) (down d) (2 ^ 149) _ _ (down_pos e) (down_pos d) (lit< tt) (exact s m e X) (exact t n d Y)
+      ∙ lt_fin
+      ∙ cross_ltb (m * up e) (n * up d) (down e) (down d) (2 ^ 149) _ _ (down_pos e) (down_pos d) (lit< tt) (exact s m e X) (exact t n d Y)
 
-  eq-fin : eq (fin (kept s m) m e) (fin (kept t n) n d) ≡ eqb (m * up e * down d) (n * up d * down e)
+  eq_fin : eq (fin (kept s m) m e) (fin (kept t n) n d) ≡ eqb (m * up e * down d) (n * up d * down e)
   unfolding eq
-  eq-fin = level-is (kept s m) (kept t n) _ _ (none s m (up e) (down d)) (none t n (up d) (down e))
+  eq_fin = level_is (kept s m) (kept t n) _ _ (none s m (up e) (down d)) (none t n (up d) (down e))
 
-  size-eq : eq (size_of (fin s m e)) (size_of (fin t n d)) ≡ eqb (units (fin s m e)) (units (fin t n d))
-  size-eq =
+  size_eq : eq (size_of (fin s m e)) (size_of (fin t n d)) ≡ eqb (units (fin s m e)) (units (fin t n d))
+  size_eq =
       ap (λ (z : Float). eq z (size_of (fin t n d))) (size_is s m e) ∙ ap (eq (fin (kept s m) m e)) (size_is t n d)
-      ∙ eq-fin
-      ∙ cross-eqb (m * up e) (n * up d) (down e) (down d) (2 ^ 149) _ _ (down_pos e) (down_pos d) (lit< tt) (exact s m e X) (exact t n d Y)
+      ∙ eq_fin
+      ∙ cross_eqb (m * up e) (n * up d) (down e) (down d) (2 ^ 149) _ _ (down_pos e) (down_pos d) (lit< tt) (exact s m e X) (exact t n d Y)
 
 -- ---- the order
 
@@ -170,11 +170,11 @@ lex u v p q = go (ltb u v) (eqb u v) refl refl
         let more : v < u = lt_of_le-ne (ltb-false u v h) (λ z. eqb-false u v k (sym z)) in
         sym (le-ltb (u * 2 + bit p) (v * 2 + bit q) (omega (arith, bit_le q)))
 
-pub beats-is : (y x : Float) → T (is_finite y) → T (is_finite x) → T (fits binary32 y) → T (fits binary32 x) → beats y x ≡ ltb (rank x) (rank y)
+pub beats_is : (y x : Float) → T (is_finite y) → T (is_finite x) → T (fits binary32 y) → T (fits binary32 x) → beats y x ≡ ltb (rank x) (rank y)
 unfolding beats rank
-beats-is (fin t n d) (fin s m e) fy fx Y X =
-    rw (size-lt s m e t n d X Y, size-eq s m e t n d X Y) (lex (units (fin s m e)) (units (fin t n d)) (positive (fin s m e)) (positive (fin t n d)))
-beats-is nan x fy fx Y X = absurd fy
-beats-is (inf t) x fy fx Y X = absurd fy
-beats-is (fin t n d) nan fy fx Y X = absurd fx
-beats-is (fin t n d) (inf s) fy fx Y X = absurd fx
+beats_is (fin t n d) (fin s m e) fy fx Y X =
+    rw (size_lt s m e t n d X Y, size_eq s m e t n d X Y) (lex (units (fin s m e)) (units (fin t n d)) (positive (fin s m e)) (positive (fin t n d)))
+beats_is nan x fy fx Y X = absurd fy
+beats_is (inf t) x fy fx Y X = absurd fy
+beats_is (fin t n d) nan fy fx Y X = absurd fx
+beats_is (fin t n d) (inf s) fy fx Y X = absurd fx

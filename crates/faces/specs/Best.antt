@@ -23,7 +23,7 @@ beats y x = lt (size_of x) (size_of y) || (eq (size_of x) (size_of y) && (positi
 abbrev pub unbeaten : List Float → Float → Bool
 unbeaten xs x = every (λ (y : Float). not (beats y x)) xs
 
--- the first index, counted from i, at which p holds; 0 where there is none. (A finite projection has one: law `best-first`.)
+-- the first index, counted from i, at which p holds; 0 where there is none. (A finite projection has one: law `best_first`.)
 unfoldable pub first_from : (Float → Bool) → ℕ → List Float → ℕ
 first_from p i [] = zero
 first_from p i (x ∷ xs) = pick (p x) i (first_from p (suc i) xs)

@@ -9,16 +9,16 @@ use Rattle.faces.specs.Answer.{FaceIs}
 
 pub record Laws : Type 0 where
   -- two answers to the same call are equal
-  pub one-answer : (r s : FaceAnswer) (num : ℕ) (f : ℤ) → FaceIs r num f → FaceIs s num f → r ≡ s
+  pub one_answer : (r s : FaceAnswer) (num : ℕ) (f : ℤ) → FaceIs r num f → FaceIs s num f → r ≡ s
   -- a projection that is not refused, whose entries are floats of binary32, has an entry that none beats: `best_of` finds the first of them,
   -- and the 0 that its definition falls back to is never taken for want of one
-  pub best-first : (w : List Float) → HasFace w → ((k : ℕ) → T (fits binary32 (get_or w k nan))) → First w (best_of w)
+  pub best_first : (w : List Float) → HasFace w → ((k : ℕ) → T (fits binary32 (get_or w k nan))) → First w (best_of w)
   -- what a pick leaves has a face again, so that each pick of a spill finds one
-  pub picked-face : (w : List Float) → HasFace w → HasFace (picked_of w)
+  pub picked_face : (w : List Float) → HasFace w → HasFace (picked_of w)
   -- a slot is below 2d
-  pub slot-low : (w : List Float) → 1 ≤ length w → slot_of w < 2 * length w
+  pub slot_low : (w : List Float) → 1 ≤ length w → slot_of w < 2 * length w
   -- the slot is that of the face, and the slots of several picks are those of their faces
-  pub face-slot : (w : List Float) → slot_of w ≡ slot_of_face (length w) (face_of w)
-  pub faces-slots : (n : ℕ) (w : List Float) → slots n w ≡ map (slot_of_face (length w)) (faces_of n w)
+  pub face_slot_is : (w : List Float) → slot_of w ≡ slot_of_face (length w) (face_of w)
+  pub faces_slots : (n : ℕ) (w : List Float) → slots n w ≡ map (slot_of_face (length w)) (faces_of n w)
   -- the picks of a smaller spill begin those of a larger one, the clamp at d - 1 included
-  pub picks-begin : (d s t : ℕ) (w : List Float) → s ≤ t → take (picks_of d s) (slots (picks_of d t) w) ≡ slots (picks_of d s) w
+  pub picks_begin : (d s t : ℕ) (w : List Float) → s ≤ t → take (picks_of d s) (slots (picks_of d t) w) ≡ slots (picks_of d s) w

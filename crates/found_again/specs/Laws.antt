@@ -17,7 +17,7 @@ pub record InFaces (g : Geo) (bs : List Float) (id : ℕ) (v : List Float) (ix :
   pub facts : GeoFacts g.d g.n g.cap g.mode
   pub faces : length ix.faces ≡ face_words g.d g.n g.cap
   pub vector : length v ≡ g.d
-  pub id-low : id < g.cap
+  pub id_low : id < g.cap
   pub bits : (b : ℕ) → b < g.n → has ix.faces (face_bit g.d g.cap b (face_slot g.d bs v b) id) ≡ 1
 
 -- what a search for v goes by, right after v was added under id
@@ -27,36 +27,36 @@ after_adding g bs id v ix work spill = searched_by g bs (add_of g bs id v ix wor
 pub record Laws : Type 0 where
   -- ---- in any index that has the id in the face sets of v's face, a search for v
   -- has the id in the union of every basis, ..
-  pub picked-anywhere : (g : Geo) (bs : List Float) (id : ℕ) (v : List Float) (ix : Ix) → InFaces g bs id v ix
+  pub picked_anywhere : (g : Geo) (bs : List Float) (id : ℕ) (v : List Float) (ix : Ix) → InFaces g bs id v ix
       → (spill b : ℕ) → b < g.n → has (union_at (searched_by g bs ix v spill) b) id ≡ 1
   -- .. so in every layer, the highest too, ..
-  pub layered-anywhere : (g : Geo) (bs : List Float) (id : ℕ) (v : List Float) (ix : Ix) → InFaces g bs id v ix
+  pub layered_anywhere : (g : Geo) (bs : List Float) (id : ℕ) (v : List Float) (ix : Ix) → InFaces g bs id v ix
       → (spill j : ℕ) → j < g.n → has (layer (set_words g.cap) (layers_of g.n (searched_by g bs ix v spill)) j) id ≡ 1
   -- .. and so in the layer that an accepted search chooses, for whatever k and search_k.
-  pub chosen-anywhere : (g : Geo) (bs : List Float) (id : ℕ) (v : List Float) (ix : Ix) → InFaces g bs id v ix
+  pub chosen_anywhere : (g : Geo) (bs : List Float) (id : ℕ) (v : List Float) (ix : Ix) → InFaces g bs id v ix
       → (k sk spill : ℕ) (ms vs : List ℕ) (r : Nearest) (a : AcceptedSearch g.n g.mode k sk (searched_by g bs ix v spill) ms vs r)
       → has (layer (set_words g.cap) (layers_of g.n (searched_by g bs ix v spill)) a.at) id ≡ 1
   -- ---- which indexes are such
   -- an index right after v was added under the id,
-  pub adding-puts : (g : Geo) (bs : List Float) (id : ℕ) (v : List Float) (ix : Ix) (work : List Float) → (add_of g bs id v ix work).answer ≡ 0
+  pub adding_puts : (g : Geo) (bs : List Float) (id : ℕ) (v : List Float) (ix : Ix) (work : List Float) → (add_of g bs id v ix work).answer ≡ 0
       → InFaces g bs id v (add_of g bs id v ix work).ix
   -- one that was such before another accepted addition, whatever was added,
-  pub adding-keeps : (g : Geo) (bs : List Float) (id : ℕ) (v : List Float) (ix : Ix) → InFaces g bs id v ix
+  pub adding_keeps : (g : Geo) (bs : List Float) (id : ℕ) (v : List Float) (ix : Ix) → InFaces g bs id v ix
       → (j : ℕ) (x work : List Float) → (add_of g bs j x ix work).answer ≡ 0 → InFaces g bs id v (add_of g bs j x ix work).ix
   -- and one merged of two of which either was such.
-  pub merging-keeps : (g : Geo) (bs : List Float) (id : ℕ) (v : List Float) (a b : Ix) → InFaces g bs id v a ⊎ InFaces g bs id v b
+  pub merging_keeps : (g : Geo) (bs : List Float) (id : ℕ) (v : List Float) (a b : Ix) → InFaces g bs id v a ⊎ InFaces g bs id v b
       → (merge_of g a b).answer ≡ 0 → InFaces g bs id v (merge_of g a b).ix
   -- ---- so right after an addition of v, a search for v
   -- has no projection that is refused: 7 can't come of it,
-  pub projects-again : (g : Geo) (bs : List Float) (id : ℕ) (v : List Float) (ix : Ix) (work : List Float) → (add_of g bs id v ix work).answer ≡ 0
+  pub projects_again : (g : Geo) (bs : List Float) (id : ℕ) (v : List Float) (ix : Ix) (work : List Float) → (add_of g bs id v ix work).answer ≡ 0
       → (spill : ℕ) → target_finite (after_adding g bs id v ix work spill) g.n ≡ true
   -- has the id in the union of every basis, ..
-  pub in-every-union : (g : Geo) (bs : List Float) (id : ℕ) (v : List Float) (ix : Ix) (work : List Float) → (add_of g bs id v ix work).answer ≡ 0
+  pub in_every_union : (g : Geo) (bs : List Float) (id : ℕ) (v : List Float) (ix : Ix) (work : List Float) → (add_of g bs id v ix work).answer ≡ 0
       → (spill b : ℕ) → b < g.n → has (union_at (after_adding g bs id v ix work spill) b) id ≡ 1
   -- .. in every layer, ..
-  pub in-every-layer : (g : Geo) (bs : List Float) (id : ℕ) (v : List Float) (ix : Ix) (work : List Float) → (add_of g bs id v ix work).answer ≡ 0
+  pub in_every_layer : (g : Geo) (bs : List Float) (id : ℕ) (v : List Float) (ix : Ix) (work : List Float) → (add_of g bs id v ix work).answer ≡ 0
       → (spill j : ℕ) → j < g.n → has (layer (set_words g.cap) (layers_of g.n (after_adding g bs id v ix work spill)) j) id ≡ 1
   -- .. and in the layer that an accepted search chooses.
-  pub in-chosen-layer : (g : Geo) (bs : List Float) (id : ℕ) (v : List Float) (ix : Ix) (work : List Float) → (add_of g bs id v ix work).answer ≡ 0
+  pub in_chosen_layer : (g : Geo) (bs : List Float) (id : ℕ) (v : List Float) (ix : Ix) (work : List Float) → (add_of g bs id v ix work).answer ≡ 0
       → (k sk spill : ℕ) (ms vs : List ℕ) (r : Nearest) (a : AcceptedSearch g.n g.mode k sk (after_adding g bs id v ix work spill) ms vs r)
       → has (layer (set_words g.cap) (layers_of g.n (after_adding g bs id v ix work spill)) a.at) id ≡ 1

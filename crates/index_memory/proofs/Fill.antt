@@ -19,8 +19,8 @@ module _ {A : Type 0} (v : A) where
   pub fill_more : (n : ℕ) (l : List A) → n < length l → set (replicate n v ++ drop n l) n v ≡ replicate (n + 1) v ++ drop (n + 1) l
   fill_more n l h = rw add-one (step n l h)
 
-  pub fill-all : (n : ℕ) (l : List A) → n ≡ length l → replicate n v ++ drop n l ≡ replicate (length l) v
-  fill-all n l h =
+  pub fill_all : (n : ℕ) (l : List A) → n ≡ length l → replicate n v ++ drop n l ≡ replicate (length l) v
+  fill_all n l h =
       let le : length l ≤ n = omega arith in
       let e : drop n l ≡ [] = drop_of_length-le l le in
       ap (λ (r : List A). replicate n v ++ r) e ∙ append-nil (replicate n v) ∙ ap (λ (k : ℕ). replicate k v) h

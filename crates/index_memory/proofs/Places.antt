@@ -19,38 +19,38 @@ module _ {A : Type 0} (b n s p : ℕ) (xs : List A) (h : b < n) (e : p ≡ b * s
   pub part_end : p + s ≤ length xs
   part_end = omega (arith, mul-le-mul_right s h)
 
-  pub part-long : length (take (p + s - p) (drop p xs)) ≡ s
-  part-long =
+  pub part_long : length (take (p + s - p) (drop p xs)) ≡ s
+  part_long =
       let a : p + s - p ≡ s = omega arith in
       rw a (length-take-le s (drop p xs) (simp length-drop (omega (arith, part_end))))
 
-pub part-is : {A : Type 0} (b s p : ℕ) (xs : List A) → p ≡ b * s → take (p + s - p) (drop p xs) ≡ take s (drop (b * s) xs)
-part-is b s p xs e =
+pub part_is : {A : Type 0} (b s p : ℕ) (xs : List A) → p ≡ b * s → take (p + s - p) (drop p xs) ≡ take s (drop (b * s) xs)
+part_is b s p xs e =
     let a : p + s - p ≡ s = omega arith in
     rw (a, e)
 
 -- ---- the bit of an id in a face set
 
-words-bits : (cap : ℕ) → cap % 64 ≡ 0 → cap ≡ set_words cap * 64
-words-bits cap e = omega arith
+words_bits : (cap : ℕ) → cap % 64 ≡ 0 → cap ≡ set_words cap * 64
+words_bits cap e = omega arith
 
 -- a set's bits are its words' bits
 bits_of : (x cap : ℕ) → cap % 64 ≡ 0 → x * cap ≡ x * set_words cap * 64
-bits_of x cap e = ap (λ (k : ℕ). x * k) (words-bits cap e) ∙ sym (mul_assoc x (set_words cap) 64)
+bits_of x cap e = ap (λ (k : ℕ). x * k) (words_bits cap e) ∙ sym (mul_assoc x (set_words cap) 64)
 
 -- it stands in word (b * 2d + slot) * W + i / 64, at bit i % 64
-pub face-bit-word : (d cap b slot i : ℕ) → cap % 64 ≡ 0 → face_bit d cap b slot i / 64 ≡ (b * (2 * d) + slot) * set_words cap + i / 64
-face-bit-word d cap b slot i e = omega (arith, bits_of (b * (2 * d) + slot) cap e)
+pub face_bit_word : (d cap b slot i : ℕ) → cap % 64 ≡ 0 → face_bit d cap b slot i / 64 ≡ (b * (2 * d) + slot) * set_words cap + i / 64
+face_bit_word d cap b slot i e = omega (arith, bits_of (b * (2 * d) + slot) cap e)
 
-pub face-bit-digit : (d cap b slot i : ℕ) → cap % 64 ≡ 0 → face_bit d cap b slot i % 64 ≡ i % 64
-face-bit-digit d cap b slot i e = omega (arith, bits_of (b * (2 * d) + slot) cap e)
+pub face_bit_digit : (d cap b slot i : ℕ) → cap % 64 ≡ 0 → face_bit d cap b slot i % 64 ≡ i % 64
+face_bit_digit d cap b slot i e = omega (arith, bits_of (b * (2 * d) + slot) cap e)
 
 -- it is one of the face sets' bits
-pub face-bit-low : (d n cap b slot i : ℕ) → cap % 64 ≡ 0 → b < n → slot < 2 * d → i < cap → face_bit d cap b slot i < face_words d n cap * 64
-face-bit-low d n cap b slot i e h s l =
+pub face_bit_low : (d n cap b slot i : ℕ) → cap % 64 ≡ 0 → b < n → slot < 2 * d → i < cap → face_bit d cap b slot i < face_words d n cap * 64
+face_bit_low d n cap b slot i e h s l =
     let t : face_bit d cap b slot i < n * (2 * d) * cap = digits_lt (digits_lt h s) l in
     omega (arith, t, bits_of (n * (2 * d)) cap e)
 
 -- an id's mark is one of the marks' bits
-pub mark-low : (cap i : ℕ) → cap % 64 ≡ 0 → i < cap → i < set_words cap * 64
-mark-low cap i e h = omega arith
+pub mark_low : (cap i : ℕ) → cap % 64 ≡ 0 → i < cap → i < set_words cap * 64
+mark_low cap i e h = omega arith

@@ -5,10 +5,10 @@ use Rattle.index_memory.specs.Memory.{own_ok_ix, empty_ix, face_bit}
 
 pub record Laws : Type 0 where
   -- The bit of id i in the set of basis b's slot is in word (b * 2d + slot) * W + i / 64, for a capacity that is a multiple of 64, ..
-  pub face-bit-word : (d cap b slot i : ℕ) → cap % 64 ≡ 0 → face_bit d cap b slot i / 64 ≡ (b * (2 * d) + slot) * set_words cap + i / 64
+  pub face_bit_word : (d cap b slot i : ℕ) → cap % 64 ≡ 0 → face_bit d cap b slot i / 64 ≡ (b * (2 * d) + slot) * set_words cap + i / 64
   -- .. at place i % 64 of that word, ..
-  pub face-bit-digit : (d cap b slot i : ℕ) → cap % 64 ≡ 0 → face_bit d cap b slot i % 64 ≡ i % 64
+  pub face_bit_digit : (d cap b slot i : ℕ) → cap % 64 ≡ 0 → face_bit d cap b slot i % 64 ≡ i % 64
   -- .. and that word is one of the face sets'.
-  pub face-bit-low : (d n cap b slot i : ℕ) → cap % 64 ≡ 0 → b < n → slot < 2 * d → i < cap → face_bit d cap b slot i < face_words d n cap * 64
+  pub face_bit_low : (d n cap b slot i : ℕ) → cap % 64 ≡ 0 → b < n → slot < 2 * d → i < cap → face_bit d cap b slot i < face_words d n cap * 64
   -- An empty index has the lengths of its geometry.
-  pub empty-own : (g : Geo) → own_ok_ix g (empty_ix g) ≡ true
+  pub empty_own : (g : Geo) → own_ok_ix g (empty_ix g) ≡ true

@@ -12,11 +12,11 @@ use Rattle.lines.specs.Lines.{trimmed, ten_digits, decimal, glyph, hexadecimal}
 use Rattle.lines.specs.Laws.{digit_of, denoted, NoZeroInFront}
 
 -- a zero in front adds nothing
-trim-denotes : (base : ℕ) (ds : List ℕ) → denoted base 0 (trimmed ds) ≡ denoted base 0 ds
+trim_denotes : (base : ℕ) (ds : List ℕ) → denoted base 0 (trimmed ds) ≡ denoted base 0 ds
 unfolding trimmed denoted
-trim-denotes base [] = refl
-trim-denotes base (x ∷ []) = refl
-trim-denotes base (x ∷ y ∷ ds) = by (eqb x 48) refl (trim-denotes base (y ∷ ds))
+trim_denotes base [] = refl
+trim_denotes base (x ∷ []) = refl
+trim_denotes base (x ∷ y ∷ ds) = by (eqb x 48) refl (trim_denotes base (y ∷ ds))
   where
     by : (b : Bool) → eqb x 48 ≡ b → denoted base 0 (trimmed (y ∷ ds)) ≡ denoted base 0 (y ∷ ds) → denoted base 0 (cond b (trimmed (y ∷ ds)) (x ∷ y ∷ ds)) ≡ denoted base 0 (x ∷ y ∷ ds)
     by true e less =
@@ -25,10 +25,10 @@ trim-denotes base (x ∷ y ∷ ds) = by (eqb x 48) refl (trim-denotes base (y �
         less ∙ rw (h, z) refl
     by false e less = refl
 
-trim-plain : (x : ℕ) (ds : List ℕ) → NoZeroInFront (trimmed (x ∷ ds))
+trim_plain : (x : ℕ) (ds : List ℕ) → NoZeroInFront (trimmed (x ∷ ds))
 unfolding trimmed
-trim-plain x [] = tt
-trim-plain x (y ∷ ds) = by (eqb x 48) refl (trim-plain y ds)
+trim_plain x [] = tt
+trim_plain x (y ∷ ds) = by (eqb x 48) refl (trim_plain y ds)
   where
     by : (b : Bool) → eqb x 48 ≡ b → NoZeroInFront (trimmed (y ∷ ds)) → NoZeroInFront (cond b (trimmed (y ∷ ds)) (x ∷ y ∷ ds))
     by true e less = less
@@ -38,8 +38,8 @@ trim-plain x (y ∷ ds) = by (eqb x 48) refl (trim-plain y ds)
 decimal_digit : (x : ℕ) → x < 10 → digit_of (48 + x) ≡ x
 decimal_digit x h = rw (lt-ltb (48 + x) 58 (omega arith)) (omega arith)
 
-glyph-digit : (x : ℕ) → x < 16 → digit_of (glyph x) ≡ x
-glyph-digit x h = by (ltb x 10) refl
+glyph_digit : (x : ℕ) → x < 16 → digit_of (glyph x) ≡ x
+glyph_digit x h = by (ltb x 10) refl
   where
     by : (b : Bool) → ltb x 10 ≡ b → digit_of (cond b (48 + x) (55 + x)) ≡ x
     by true e = decimal_digit x (ltb-true x 10 e)
@@ -54,18 +54,18 @@ ten : (n p : ℕ) (cs : List ℕ) → denoted 10 (n / (p * 10)) ((48 + n / p % 1
 ten n p cs = up 10 n p _ cs (decimal_digit (n / p % 10) (omega arith))
 
 sixteen : (n p : ℕ) (cs : List ℕ) → denoted 16 (n / (p * 16)) (glyph (n / p % 16) ∷ cs) ≡ denoted 16 (n / p) cs
-sixteen n p cs = up 16 n p _ cs (glyph-digit (n / p % 16) (omega arith))
+sixteen n p cs = up 16 n p _ cs (glyph_digit (n / p % 16) (omega arith))
 
 -- the last digit
 last : (base n c : ℕ) → digit_of c ≡ n % base → denoted base (n / base) (c ∷ []) ≡ n
 unfolding denoted
 last base n c e = rw e (div-add-mod' n base)
 
-pub decimal-denotes : (n : ℕ) → n < 10000000000 → denoted 10 0 (decimal n) ≡ n
+pub decimal_denotes : (n : ℕ) → n < 10000000000 → denoted 10 0 (decimal n) ≡ n
 unfolding decimal
-decimal-denotes n h =
+decimal_denotes n h =
     let z : 0 ≡ n / 10000000000 = omega arith in
-    trim-denotes 10 (ten_digits n)
+    trim_denotes 10 (ten_digits n)
     ∙ ap (λ (b : ℕ). denoted 10 b (ten_digits n)) z
     ∙ ten n 1000000000 _
     ∙ ten n 100000000 _
@@ -78,13 +78,13 @@ decimal-denotes n h =
     ∙ ten n 10 _
     ∙ last 10 n (48 + n % 10) (decimal_digit (n % 10) (omega arith))
 
-pub decimal-plain : (n : ℕ) → NoZeroInFront (decimal n)
+pub decimal_plain : (n : ℕ) → NoZeroInFront (decimal n)
 unfolding decimal
-decimal-plain n = trim-plain _ _
+decimal_plain n = trim_plain _ _
 
-pub hexadecimal-denotes : (n : ℕ) → n < 4294967296 → denoted 16 0 (hexadecimal n) ≡ n
+pub hexadecimal_denotes : (n : ℕ) → n < 4294967296 → denoted 16 0 (hexadecimal n) ≡ n
 unfolding hexadecimal
-hexadecimal-denotes n h =
+hexadecimal_denotes n h =
     let z : 0 ≡ n / 4294967296 = omega arith in
     ap (λ (b : ℕ). denoted 16 b (hexadecimal n)) z
     ∙ sixteen n 268435456 _
@@ -94,8 +94,8 @@ hexadecimal-denotes n h =
     ∙ sixteen n 4096 _
     ∙ sixteen n 256 _
     ∙ sixteen n 16 _
-    ∙ last 16 n (glyph (n % 16)) (glyph-digit (n % 16) (omega arith))
+    ∙ last 16 n (glyph (n % 16)) (glyph_digit (n % 16) (omega arith))
 
-pub hexadecimal-eight : (n : ℕ) → length (hexadecimal n) ≡ 8
+pub hexadecimal_eight : (n : ℕ) → length (hexadecimal n) ≡ 8
 unfolding hexadecimal
-hexadecimal-eight n = refl
+hexadecimal_eight n = refl

@@ -19,8 +19,8 @@ NoZeroInFront (c ∷ d ∷ cs) = c ≡ 48 → ⊥
 
 pub record Laws : Type 0 where
   -- ids, counts and numbers of a geometry have 32 bits, and so at most ten digits
-  pub decimal-denotes : (n : ℕ) → n < 10000000000 → denoted 10 0 (decimal n) ≡ n
-  pub decimal-plain : (n : ℕ) → NoZeroInFront (decimal n)
+  pub decimal_denotes : (n : ℕ) → n < 10000000000 → denoted 10 0 (decimal n) ≡ n
+  pub decimal_plain : (n : ℕ) → NoZeroInFront (decimal n)
   -- a score's bits
-  pub hexadecimal-denotes : (n : ℕ) → n < 4294967296 → denoted 16 0 (hexadecimal n) ≡ n
-  pub hexadecimal-eight : (n : ℕ) → length (hexadecimal n) ≡ 8
+  pub hexadecimal_denotes : (n : ℕ) → n < 4294967296 → denoted 16 0 (hexadecimal n) ≡ n
+  pub hexadecimal_eight : (n : ℕ) → length (hexadecimal n) ≡ 8

@@ -9,39 +9,39 @@ use lib.Bits.{bit_and}
 use lib.Count.{ones}
 use lib.ListN.{length, get_or, set, take, drop, length-drop}
 use lib.Seq.{sets, take-suc, get_or-drop, length-take-le}
-use Rattle.quantization.proofs.Sets.{sets-append}
+use Rattle.quantization.proofs.Sets.{sets_append}
 use Rattle.bitmaps.specs.Words.{has, shared, size}
-use Rattle.bitmaps.proofs.Zip.{by_word-length}
-use Rattle.bitmaps.proofs.Digits.{by_word-at}
-use Rattle.bitmaps.proofs.Size.{size-drop}
+use Rattle.bitmaps.proofs.Zip.{by_word_length}
+use Rattle.bitmaps.proofs.Digits.{by_word_at}
+use Rattle.bitmaps.proofs.Size.{size_drop}
 use Rattle.merging.specs.Merging.{copied}
 
 -- ---- ids in both sets
 
 -- the words from i on: the word at i, and the words from i + 1 on
-pub share-drop : (a b : List ℕ) (i : ℕ) → length a ≡ length b → i < length a
+pub share_drop : (a b : List ℕ) (i : ℕ) → length a ≡ length b → i < length a
     → size (drop i (shared a b)) ≡ ones (bit_and (get_or a i 0) (get_or b i 0)) + size (drop (i + 1) (shared a b))
-share-drop a b i e h =
-    let l : i < length (shared a b) = subst (λ (k : ℕ). i < k) (sym (by_word-length bit_and a b)) h in
-    size-drop (shared a b) i l ∙ ap (λ (x : ℕ). ones x + size (drop (i + 1) (shared a b))) (by_word-at bit_and refl a b e i)
+share_drop a b i e h =
+    let l : i < length (shared a b) = subst (λ (k : ℕ). i < k) (sym (by_word_length bit_and a b)) h in
+    size_drop (shared a b) i l ∙ ap (λ (x : ℕ). ones x + size (drop (i + 1) (shared a b))) (by_word_at bit_and refl a b e i)
 
 -- ---- one slot
 
-pub copy-byte : (l from : List ℕ) (at j : ℕ) (now : List ℕ) → at + j < length from → now ≡ sets l at (take j (drop at from))
+pub copy_byte : (l from : List ℕ) (at j : ℕ) (now : List ℕ) → at + j < length from → now ≡ sets l at (take j (drop at from))
     → set now (at + j) (get_or from (at + j) 0) ≡ sets l at (take (j + 1) (drop at from))
-copy-byte l from at j now h e =
+copy_byte l from at j now h e =
     let hd : j < length (drop at from) = simp length-drop (omega arith) in
     let le : j ≤ length (drop at from) = omega arith in
     let t : take (j + 1) (drop at from) ≡ take j (drop at from) ++ (get_or from (at + j) 0 ∷ []) =
     rw (add-one, take-suc (drop at from) j 0 hd, get_or-drop at from j 0) refl in
-    rw (e, t, sets-append l (take j (drop at from)) (get_or from (at + j) 0 ∷ []) at, length-take-le j (drop at from) le) refl
+    rw (e, t, sets_append l (take j (drop at from)) (get_or from (at + j) 0 ∷ []) at, length-take-le j (drop at from) le) refl
 
 -- ---- the marked slots
 
 module _ (size : ℕ) (ms from vs : List ℕ) where
-  one-not : (i : ℕ) → has ms i ≡ 0 → copied size (suc i) ms from vs ≡ copied size i ms from vs
+  one_not : (i : ℕ) → has ms i ≡ 0 → copied size (suc i) ms from vs ≡ copied size i ms from vs
   unfolding copied
-  one-not i e = rw e
+  one_not i e = rw e
 
   -- ids without a mark copy nothing
   skipped : (a b : ℕ) → a ≤ b → ((j : ℕ) → a ≤ j → j < b → has ms j ≡ 0) → copied size b ms from vs ≡ copied size a ms from vs
@@ -50,14 +50,14 @@ module _ (size : ℕ) (ms from vs : List ℕ) where
     where
       go : Dec (a ≡ suc b) → (a ≤ b → copied size b ms from vs ≡ copied size a ms from vs) → copied size (suc b) ms from vs ≡ copied size a ms from vs
       go (yes e) ih = ap (λ (k : ℕ). copied size k ms from vs) (sym e)
-      go (no ne) ih = let le : a ≤ b = omega arith in one-not b (n b le (omega arith)) ∙ ih le
+      go (no ne) ih = let le : a ≤ b = omega arith in one_not b (n b le (omega arith)) ∙ ih le
 
   -- the next marked id
-  pub copy-turn : (at i : ℕ) (now : List ℕ) → at ≤ i → has ms i ≡ 1 → ((j : ℕ) → at ≤ j → j < i → has ms j ≡ 0) → now ≡ copied size at ms from vs
+  pub copy_turn : (at i : ℕ) (now : List ℕ) → at ≤ i → has ms i ≡ 1 → ((j : ℕ) → at ≤ j → j < i → has ms j ≡ 0) → now ≡ copied size at ms from vs
       → sets now (i * size) (take size (drop (i * size) from)) ≡ copied size (i + 1) ms from vs
   unfolding copied
-  copy-turn at i now h m n e = rw (add-one, m, e, ← skipped at i h n) refl
+  copy_turn at i now h m n e = rw (add-one, m, e, ← skipped at i h n) refl
 
   -- none left
-  pub copy-end : (at k : ℕ) (now : List ℕ) → at ≤ k → ((j : ℕ) → at ≤ j → has ms j ≡ 0) → now ≡ copied size at ms from vs → now ≡ copied size k ms from vs
-  copy-end at k now h n e = e ∙ sym (skipped at k h (λ j l m. n j l))
+  pub copy_end : (at k : ℕ) (now : List ℕ) → at ≤ k → ((j : ℕ) → at ≤ j → has ms j ≡ 0) → now ≡ copied size at ms from vs → now ≡ copied size k ms from vs
+  copy_end at k now h n e = e ∙ sym (skipped at k h (λ j l m. n j l))

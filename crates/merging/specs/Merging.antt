@@ -31,7 +31,7 @@ merge_of g a b = let r = merge_refusal g a b in done r (pick (eqb r 0) (merged_i
 -- ---- what the private functions ask
 
 pub record CopyArgs (size lv lf lm : ℕ) : Type 0 where
-  pub size-high : size ≤ 4096
-  pub marks-high : lm ≤ 1024
+  pub size_high : size ≤ 4096
+  pub marks_high : lm ≤ 1024
   pub vectors : lv ≡ lm * 64 * size
   pub from : lf ≡ lm * 64 * size

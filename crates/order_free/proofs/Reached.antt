@@ -10,72 +10,72 @@ use Rattle.index_memory.specs.Memory.{Ix, empty_ix, own_ok_ix, own_refusal, Done
 use Rattle.adding.specs.Adding.{Added, added, add_of}
 use Rattle.merging.specs.Merging.{merge_of}
 use Rattle.order_free.specs.Order.{Addition, Call, whats, WorkLent, step, run, swap, Deal, one, two, built, AllAccepted, calls, filled, FillArgs}
-use Rattle.order_free.proofs.Orders.{run_is, puts, run-shuffle}
-use Rattle.order_free.proofs.Deals.{any-deal, puts-append}
+use Rattle.order_free.proofs.Orders.{run_is, puts, run_shuffle}
+use Rattle.order_free.proofs.Deals.{any_deal, puts_append}
 
-lent-calls : (g : Geo) (xs : List Addition) → WorkLent g (calls g xs)
-lent-calls g [] = tt
-lent-calls g (a ∷ xs) = (length-replicate g.d _, lent-calls g xs)
+lent_calls : (g : Geo) (xs : List Addition) → WorkLent g (calls g xs)
+lent_calls g [] = tt
+lent_calls g (a ∷ xs) = (length-replicate g.d _, lent_calls g xs)
 
-whats-calls : (g : Geo) (xs : List Addition) → whats (calls g xs) ≡ xs
-whats-calls g [] = refl
-whats-calls g (a ∷ xs) = ap (λ (r : List Addition). a ∷ r) (whats-calls g xs)
+whats_calls : (g : Geo) (xs : List Addition) → whats (calls g xs) ≡ xs
+whats_calls g [] = refl
+whats_calls g (a ∷ xs) = ap (λ (r : List Addition). a ∷ r) (whats_calls g xs)
 
-filled-puts : (g : Geo) (bs : List Float) (xs : List Addition) → filled g bs xs ≡ puts g bs xs (empty_ix g)
+filled_puts : (g : Geo) (bs : List Float) (xs : List Addition) → filled g bs xs ≡ puts g bs xs (empty_ix g)
 unfolding filled
-filled-puts g bs xs = run_is g bs (calls g xs) (empty_ix g) (lent-calls g xs) ∙ ap (λ (r : List Addition). puts g bs r (empty_ix g)) (whats-calls g xs)
+filled_puts g bs xs = run_is g bs (calls g xs) (empty_ix g) (lent_calls g xs) ∙ ap (λ (r : List Addition). puts g bs r (empty_ix g)) (whats_calls g xs)
 
 module _ (g : Geo) (bs : List Float) where
   -- an index made empty
-  pub made-empty : (ix ix' : Ix) (r : ℕ) → geo_ok g.d g.n g.cap g.mode ≡ true → own_ok_ix g ix ≡ true → done r ix' ≡ empty_of g ix → ix' ≡ empty_ix g
+  pub made_empty : (ix ix' : Ix) (r : ℕ) → geo_ok g.d g.n g.cap g.mode ≡ true → own_ok_ix g ix ≡ true → done r ix' ≡ empty_of g ix → ix' ≡ empty_ix g
   unfolding empty_of own_refusal
-  made-empty ix ix' r p o e = ap (λ (x : Done). x.ix) e ∙ rw (p, o)
+  made_empty ix ix' r p o e = ap (λ (x : Done). x.ix) e ∙ rw (p, o)
 
   -- a call after additions: they and its own
-  more-filled : (xs ys : List Addition) (a : Addition) (ix ix' : Ix) (r : ℕ) (w w' : List Float) → ys ≡ xs ++ (a ∷ []) → length w ≡ g.d → ix ≡ filled g bs xs
+  more_filled : (xs ys : List Addition) (a : Addition) (ix ix' : Ix) (r : ℕ) (w w' : List Float) → ys ≡ xs ++ (a ∷ []) → length w ≡ g.d → ix ≡ filled g bs xs
       → added r ix' w' ≡ add_of g bs a.id a.v ix w → ix' ≡ filled g bs ys
   unfolding run step
-  more-filled xs ys a ix ix' r w w' y l e h =
+  more_filled xs ys a ix ix' r w w' y l e h =
       let c : Call = record { what = a; work = w } in
       let one' : ix' ≡ run g bs (c ∷ []) (filled g bs xs) = ap (λ (x : Added). x.ix) h ∙ ap (λ (i : Ix). (add_of g bs a.id a.v i w).ix) e in
-      one' ∙ run_is g bs (c ∷ []) (filled g bs xs) (l, tt) ∙ ap (λ (i : Ix). puts g bs (a ∷ []) i) (filled-puts g bs xs)
-      ∙ sym (puts-append g bs xs (a ∷ []) (empty_ix g)) ∙ ap (λ (l : List Addition). puts g bs l (empty_ix g)) (sym y) ∙ sym (filled-puts g bs ys)
+      one' ∙ run_is g bs (c ∷ []) (filled g bs xs) (l, tt) ∙ ap (λ (i : Ix). puts g bs (a ∷ []) i) (filled_puts g bs xs)
+      ∙ sym (puts_append g bs xs (a ∷ []) (empty_ix g)) ∙ ap (λ (l : List Addition). puts g bs l (empty_ix g)) (sym y) ∙ sym (filled_puts g bs ys)
 
   none_filled : empty_ix g ≡ filled g bs []
   unfolding filled run
   none_filled = refl
 
-  pub one-filled : (a : Addition) (ix0 ix ix' : Ix) (r q : ℕ) (w w' : List Float) → geo_ok g.d g.n g.cap g.mode ≡ true → own_ok_ix g ix0 ≡ true
+  pub one_filled : (a : Addition) (ix0 ix ix' : Ix) (r q : ℕ) (w w' : List Float) → geo_ok g.d g.n g.cap g.mode ≡ true → own_ok_ix g ix0 ≡ true
       → done q ix ≡ empty_of g ix0 → length w ≡ g.d → added r ix' w' ≡ add_of g bs a.id a.v ix w → ix' ≡ filled g bs (a ∷ [])
-  one-filled a ix0 ix ix' r q w w' p o d l h = more-filled [] (a ∷ []) a ix ix' r w w' refl l (made-empty ix0 ix q p o d ∙ none_filled) h
+  one_filled a ix0 ix ix' r q w w' p o d l h = more_filled [] (a ∷ []) a ix ix' r w w' refl l (made_empty ix0 ix q p o d ∙ none_filled) h
 
-  pub two-filled : (a b : Addition) (ix ix' : Ix) (r : ℕ) (w w' : List Float) → length w ≡ g.d → ix ≡ filled g bs (a ∷ []) → added r ix' w' ≡ add_of g bs b.id b.v ix w
+  pub two_filled : (a b : Addition) (ix ix' : Ix) (r : ℕ) (w w' : List Float) → length w ≡ g.d → ix ≡ filled g bs (a ∷ []) → added r ix' w' ≡ add_of g bs b.id b.v ix w
       → ix' ≡ filled g bs (a ∷ b ∷ [])
-  two-filled a b ix ix' r w w' l e h = more-filled (a ∷ []) (a ∷ b ∷ []) b ix ix' r w w' refl l e h
+  two_filled a b ix ix' r w w' l e h = more_filled (a ∷ []) (a ∷ b ∷ []) b ix ix' r w w' refl l e h
 
   -- two orders
   pub either_order : (a b : Addition) → (a.id ≡ b.id → ⊥) → (x y : Ix) → x ≡ filled g bs (a ∷ b ∷ []) → y ≡ filled g bs (b ∷ a ∷ []) → x ≡ y
   unfolding filled
   either_order a b ne x y p q =
-      p ∙ run-shuffle g bs (calls g (a ∷ b ∷ [])) (calls g (b ∷ a ∷ [])) (lent-calls g (a ∷ b ∷ [])) (lent-calls g (b ∷ a ∷ [])) swap (((λ e. ne (sym e)), tt), (tt, tt)) (empty_ix g) ∙ sym q
+      p ∙ run_shuffle g bs (calls g (a ∷ b ∷ [])) (calls g (b ∷ a ∷ [])) (lent_calls g (a ∷ b ∷ [])) (lent_calls g (b ∷ a ∷ [])) swap (((λ e. ne (sym e)), tt), (tt, tt)) (empty_ix g) ∙ sym q
 
   -- two deals
   abbrev pair : Addition → Addition → Deal
   pair a b = two (one (calls g (a ∷ []))) (one (calls g (b ∷ [])))
 
-  both-deals : geo_ok g.d g.n g.cap g.mode ≡ true → (a b : Addition) → (a.id ≡ b.id → ⊥)
+  both_deals : geo_ok g.d g.n g.cap g.mode ≡ true → (a b : Addition) → (a.id ≡ b.id → ⊥)
       → (built g bs (pair a b) ≡ run g bs (calls g (b ∷ a ∷ [])) (empty_ix g)) × AllAccepted g bs (pair a b)
-  both-deals good a b ne =
-      any-deal g bs good (calls g (b ∷ a ∷ [])) (lent-calls g (b ∷ a ∷ [])) ((ne, tt), (tt, tt)) (pair a b) (length-replicate g.d _, (length-replicate g.d _, tt)) swap
+  both_deals good a b ne =
+      any_deal g bs good (calls g (b ∷ a ∷ [])) (lent_calls g (b ∷ a ∷ [])) ((ne, tt), (tt, tt)) (pair a b) (length-replicate g.d _, (length-replicate g.d _, tt)) swap
 
-  pub either-deal : geo_ok g.d g.n g.cap g.mode ≡ true → (a b : Addition) → (a.id ≡ b.id → ⊥) → (x y z u : Ix) (r : ℕ) → x ≡ filled g bs (a ∷ []) → y ≡ filled g bs (b ∷ [])
+  pub either_deal : geo_ok g.d g.n g.cap g.mode ≡ true → (a b : Addition) → (a.id ≡ b.id → ⊥) → (x y z u : Ix) (r : ℕ) → x ≡ filled g bs (a ∷ []) → y ≡ filled g bs (b ∷ [])
       → done r z ≡ merge_of g x y → u ≡ filled g bs (b ∷ a ∷ []) → (r ≡ 0) × (z ≡ u)
   unfolding filled built
-  either-deal good a b ne x y z u r p q e f =
-      let t = both-deals good a b ne in
+  either_deal good a b ne x y z u r p q e f =
+      let t = both_deals good a b ne in
       let m : merge_of g x y ≡ merge_of g (run g bs (calls g (a ∷ [])) (empty_ix g)) (run g bs (calls g (b ∷ [])) (empty_ix g)) = ap₂ (λ (i j : Ix). merge_of g i j) p q in
       (ap (λ (d : Done). d.answer) (e ∙ m) ∙ t.1.0, ap (λ (d : Done). d.ix) (e ∙ m) ∙ t.0 ∙ sym f)
 
 -- the same lengths again
-pub fill-again : {d n cap mode lf lm lv lw lf' lm' lv' lw' : ℕ} → FillArgs d n cap mode lf lm lv lw → lf' ≡ lf → lm' ≡ lm → lv' ≡ lv → lw' ≡ lw → FillArgs d n cap mode lf' lm' lv' lw'
-fill-again f p q r s = rw (p, q, r, s) f
+pub fill_again : {d n cap mode lf lm lv lw lf' lm' lv' lw' : ℕ} → FillArgs d n cap mode lf lm lv lw → lf' ≡ lf → lm' ≡ lm → lv' ≡ lv → lw' ≡ lw → FillArgs d n cap mode lf' lm' lv' lw'
+fill_again f p q r s = rw (p, q, r, s) f

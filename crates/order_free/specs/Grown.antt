@@ -42,11 +42,11 @@ module _ (g : Geo) (bs : List Float) where
   abbrev pub bytes_of : List Addition → ℕ → List ℕ
   bytes_of xs i = last_or (taken_as i) (λ (a : Addition). lower_bytes g.mode (normalized a.v)) xs (empty (slot_bytes g.d g.mode))
 
-  -- an index of the right lengths that holds just that (`grown-once` in proofs/: there is one such index)
+  -- an index of the right lengths that holds just that (`grown_once` in proofs/: there is one such index)
   pub record Grown (xs : List Addition) (ix : Ix) : Type 0 where
     pub lengths : own_ok_ix g ix ≡ true
     pub faces : (k : ℕ) → has ix.faces k ≡ face_of xs k
-    pub face-words : (q : ℕ) → get_or ix.faces q 0 < 2 ^ 64
+    pub face_words_lem : (q : ℕ) → get_or ix.faces q 0 < 2 ^ 64
     pub marks : (i : ℕ) → has ix.marks i ≡ mark_of xs i
-    pub mark-words : (q : ℕ) → get_or ix.marks q 0 < 2 ^ 64
+    pub mark_words : (q : ℕ) → get_or ix.marks q 0 < 2 ^ 64
     pub vecs : (i : ℕ) → i < g.cap → stored_at g.d g.mode ix.vecs i ≡ bytes_of xs i

@@ -16,11 +16,11 @@ use lib.Ieee.{Float, nan, binary32, sub, mul}
 use Rattle.ortho.specs.Ortho.{row, less_times, reduced, norm_row, told, and_then, pair_of, rows_of, round_of, rounds_of}
 
 -- what is left to count, one less at each turn
-pub left-suc : (d k : ℕ) → k < d → d - k ≡ suc (d - (k + 1))
-left-suc d k h = omega arith
+pub left_suc : (d k : ℕ) → k < d → d - k ≡ suc (d - (k + 1))
+left_suc d k h = omega arith
 
-pub left-none : (d k : ℕ) → d ≤ k → d - k ≡ 0
-left-none d k h = omega arith
+pub left_none : (d k : ℕ) → d ≤ k → d - k ≡ 0
+left_none d k h = omega arith
 
 -- ---- reducing a row: a loop that goes by the component, and the rule
 
@@ -31,25 +31,25 @@ reducing a b t (suc n) k xs =
     reducing a b t n (suc k) (set xs (b + k) (sub binary32 (get_or xs (b + k) nan) (mul binary32 t (get_or xs (a + k) nan))))
 
 module _ (a b : ℕ) (t : Float) (d k : ℕ) (xs : List Float) where
-  pub reducing-step : k < d → reducing a b t (d - k) k xs ≡ reducing a b t (d - (k + 1)) (k + 1) (set xs (b + k) (sub binary32 (get_or xs (b + k) nan) (mul binary32 t (get_or xs (a + k) nan))))
+  pub reducing_step : k < d → reducing a b t (d - k) k xs ≡ reducing a b t (d - (k + 1)) (k + 1) (set xs (b + k) (sub binary32 (get_or xs (b + k) nan) (mul binary32 t (get_or xs (a + k) nan))))
   unfolding reducing
-  reducing-step h = rw (left-suc d k h, add-one)
+  reducing_step h = rw (left_suc d k h, add-one)
 
-  pub reducing-end : d ≤ k → reducing a b t (d - k) k xs ≡ xs
+  pub reducing_end : d ≤ k → reducing a b t (d - k) k xs ≡ xs
   unfolding reducing
-  reducing-end h = rw (left-none d k h)
+  reducing_end h = rw (left_none d k h)
 
 -- a row before a component that is written
-row-before-set : (i n j : ℕ) (xs : List Float) (v : Float) → i + n ≤ j → row i n (set xs j v) ≡ row i n xs
-row-before-set i n j xs v h =
+row_before_set : (i n j : ℕ) (xs : List Float) (v : Float) → i + n ≤ j → row i n (set xs j v) ≡ row i n xs
+row_before_set i n j xs v h =
     let e : i + (j - i) ≡ j = omega arith in
     ap (λ (z : ℕ). row i n (set xs z v)) (sym e)
     ∙ ap (take n) (drop-set-add i xs (j - i) v)
     ∙ take-set-le n (drop i xs) (j - i) v (omega arith)
 
 -- and one after it
-row-after-set : (i n j : ℕ) (xs : List Float) (v : Float) → j < i → row i n (set xs j v) ≡ row i n xs
-row-after-set i n j xs v h = ap (take n) (drop-set-lt i xs j v h)
+row_after_set : (i n j : ℕ) (xs : List Float) (v : Float) → j < i → row i n (set xs j v) ≡ row i n xs
+row_after_set i n j xs v h = ap (take n) (drop-set-lt i xs j v h)
 
 -- a row of one component more
 row_more : (i n : ℕ) (xs : List Float) → i < length xs → row i (suc n) xs ≡ get_or xs i nan ∷ row (suc i) n xs
@@ -61,10 +61,10 @@ one_more : (t : Float) (i j n : ℕ) (xs : List Float) → i + suc n ≤ j → j
 unfolding zip_with
 one_more t i j n xs h l =
     let v = sub binary32 (get_or xs j nan) (mul binary32 t (get_or xs i nan)) in
-    let p : row (suc i) n (set xs j v) ≡ row (suc i) n xs = row-before-set (suc i) n j xs v (omega arith) in
-    let q : row (suc j) n (set xs j v) ≡ row (suc j) n xs = row-after-set (suc j) n j xs v (omega arith) in
+    let p : row (suc i) n (set xs j v) ≡ row (suc i) n xs = row_before_set (suc i) n j xs v (omega arith) in
+    let q : row (suc j) n (set xs j v) ≡ row (suc j) n xs = row_after_set (suc j) n j xs v (omega arith) in
     let r : drop (suc j + n) (set xs j v) ≡ drop (j + suc n) xs =
-    drop-set-lt (suc j + n) xs j v (omega arith) ∙ ap (λ (z : ℕ). drop z xs) (suc-add j n) in
+    drop-set-lt (suc j + n) xs j v (omega arith) ∙ ap (λ (z : ℕ). drop z xs) (suc_add j n) in
     let f : take (suc j) (set xs j v) ≡ take j xs ++ (v ∷ []) = take-suc-set xs j v (omega arith) in
     let rest = less_times t (row (suc i) n xs) (row (suc j) n xs) in
     ap (λ (z : List Float). take (suc j) (set xs j v) ++ (less_times t z (row (suc j) n (set xs j v)) ++ drop (suc j + n) (set xs j v))) p
@@ -75,8 +75,8 @@ one_more t i j n xs h l =
     ∙ ap (λ (z : List Float). take j xs ++ (less_times t z (get_or xs j nan ∷ row (suc j) n xs) ++ drop (j + suc n) xs)) (sym (row_more i n xs (omega arith)))
     ∙ ap (λ (z : List Float). take j xs ++ (less_times t (row i (suc n) xs) z ++ drop (j + suc n) xs)) (sym (row_more j n xs (omega arith)))
   where
-    suc-add : (j n : ℕ) → suc j + n ≡ j + suc n
-    suc-add j n = omega arith
+    suc_add : (j n : ℕ) → suc j + n ≡ j + suc n
+    suc_add j n = omega arith
 
 -- none
 none_left : (t : Float) (i j : ℕ) (xs : List Float) → xs ≡ reduced i j 0 t xs
@@ -86,53 +86,53 @@ none_left t i j xs =
     sym (take-append-drop j xs) ∙ ap (λ (z : ℕ). take j xs ++ drop z xs) (sym e)
 
 -- the loop follows the rule where the row at b comes after the row at a
-pub reducing-is : (a b : ℕ) (t : Float) (n k : ℕ) (xs : List Float) → a + k + n ≤ b → b + k + n ≤ length xs → reducing a b t n k xs ≡ reduced (a + k) (b + k) n t xs
+pub reducing_is : (a b : ℕ) (t : Float) (n k : ℕ) (xs : List Float) → a + k + n ≤ b → b + k + n ≤ length xs → reducing a b t n k xs ≡ reduced (a + k) (b + k) n t xs
 unfolding reducing
-reducing-is a b t zero k xs h l = none_left t (a + k) (b + k) xs
-reducing-is a b t (suc n) k xs h l =
+reducing_is a b t zero k xs h l = none_left t (a + k) (b + k) xs
+reducing_is a b t (suc n) k xs h l =
     let v = sub binary32 (get_or xs (b + k) nan) (mul binary32 t (get_or xs (a + k) nan)) in
     let e : length (set xs (b + k) v) ≡ length xs = length-set xs (b + k) v in
     let p : a + suc k ≡ suc (a + k) = omega arith in
     let q : b + suc k ≡ suc (b + k) = omega arith in
-    reducing-is a b t n (suc k) (set xs (b + k) v) (omega arith) (omega arith)
+    reducing_is a b t n (suc k) (set xs (b + k) v) (omega arith) (omega arith)
     ∙ ap (λ (z : ℕ). reduced z (b + suc k) n t (set xs (b + k) v)) p
     ∙ ap (λ (z : ℕ). reduced (suc (a + k)) z n t (set xs (b + k) v)) q
     ∙ one_more t (a + k) (b + k) n xs (omega arith) (omega arith)
 
-pub reduced-loop : (a b : ℕ) (t : Float) (d : ℕ) (xs : List Float) → a + d ≤ b → b + d ≤ length xs → reducing a b t d 0 xs ≡ reduced a b d t xs
-reduced-loop a b t d xs h l =
+pub reduced_loop : (a b : ℕ) (t : Float) (d : ℕ) (xs : List Float) → a + d ≤ b → b + d ≤ length xs → reducing a b t d 0 xs ≡ reduced a b d t xs
+reduced_loop a b t d xs h l =
     let p : a + 0 ≡ a = omega arith in
     let q : b + 0 ≡ b = omega arith in
-    reducing-is a b t d 0 xs (omega arith) (omega arith)
+    reducing_is a b t d 0 xs (omega arith) (omega arith)
     ∙ ap (λ (z : ℕ). reduced z (b + 0) d t xs) p
     ∙ ap (λ (z : ℕ). reduced a z d t xs) q
 
-pub pick-told : (b : Bool) (xs : List Float) → pick b (some xs) none ≡ told b xs
-pick-told true xs = refl
-pick-told false xs = refl
+pub pick_told : (b : Bool) (xs : List Float) → pick b (some xs) none ≡ told b xs
+pick_told true xs = refl
+pick_told false xs = refl
 
 -- a part that was lent, normalised, and has come back
-pub norm-row : (a d : ℕ) (xs ys : List Float) (m : ℕ) → m ≡ norm_number (take (a + d - a) (drop a xs)) → ys ≡ normalized (take (a + d - a) (drop a xs)) → norm_row a d xs ≡ told (eqb m 0) (take a xs ++ (ys ++ drop (a + d - a) (drop a xs)))
+pub norm_row_lem : (a d : ℕ) (xs ys : List Float) (m : ℕ) → m ≡ norm_number (take (a + d - a) (drop a xs)) → ys ≡ normalized (take (a + d - a) (drop a xs)) → norm_row a d xs ≡ told (eqb m 0) (take a xs ++ (ys ++ drop (a + d - a) (drop a xs)))
 unfolding norm_row
-norm-row a d xs ys m p q =
-    rw (p, q, add-sub_cancel_left, drop-drop) (pick-told (eqb (norm_number (take d (drop a xs))) 0) (take a xs ++ (normalized (take d (drop a xs)) ++ drop (a + d) xs)))
+norm_row_lem a d xs ys m p q =
+    rw (p, q, add-sub_cancel_left, drop-drop) (pick_told (eqb (norm_number (take d (drop a xs))) 0) (take a xs ++ (normalized (take d (drop a xs)) ++ drop (a + d) xs)))
 
 -- one row more: the code's j + 1, with d - j rows left
 module _ (d i j : ℕ) (xs : List Float) where
   pub rows_step : j < d → rows_of d i (d - j) j xs ≡ and_then (pair_of (i * d) (j * d) d xs) (rows_of d i (d - (j + 1)) (j + 1))
   unfolding rows_of
-  rows_step h = rw (left-suc d j h, add-one)
+  rows_step h = rw (left_suc d j h, add-one)
 
   module _ (a : ℕ) (A : a ≡ i * d) (h : j < d) (r : Bool) (ys : List Float) (P : pair_of a (j * d) d xs ≡ told r ys) where
     pub rows_more : r ≡ true → rows_of d i (d - j) j xs ≡ rows_of d i (d - (j + 1)) (j + 1) ys
     rows_more t = rows_step h ∙ rw (← A, P, t)
 
-    pub rows-fail : r ≡ false → rows_of d i (d - j) j xs ≡ none
-    rows-fail t = rows_step h ∙ rw (← A, P, t)
+    pub rows_fail : r ≡ false → rows_of d i (d - j) j xs ≡ none
+    rows_fail t = rows_step h ∙ rw (← A, P, t)
 
   pub rows_end : d ≤ j → rows_of d i (d - j) j xs ≡ some xs
   unfolding rows_of
-  rows_end h = rw (left-none d j h)
+  rows_end h = rw (left_none d j h)
 
 -- a row before another
 pub row_before : (d i j : ℕ) → i < j → i * d + d ≤ j * d
@@ -146,8 +146,8 @@ row_within d j h = subst (λ (n : ℕ). n ≤ d * d) (suc-mul j d) (mul-le-mul_r
 pub copy_step : (src out : List Float) (k : ℕ) → k < length src → k < length out → take k out ≡ take k src → take (k + 1) (set out k (get_or src k nan)) ≡ take (k + 1) src
 copy_step src out k hs ho e = rw (add-one, take-suc-set out k _ ho, take-suc src k nan hs, e)
 
-pub copy-end : (src out : List Float) (k : ℕ) → length src ≤ k → length out ≤ k → take k out ≡ take k src → out ≡ src
-copy-end src out k hs ho e = sym (take_all k out ho) ∙ e ∙ take_all k src hs
+pub copy_end : (src out : List Float) (k : ℕ) → length src ≤ k → length out ≤ k → take k out ≡ take k src → out ≡ src
+copy_end src out k hs ho e = sym (take_all k out ho) ∙ e ∙ take_all k src hs
 
 pub fill_step : (z : Float) (out : List Float) (k : ℕ) → k < length out → take k out ≡ replicate k z → take (k + 1) (set out k z) ≡ replicate (k + 1) z
 fill_step z out k h e = ap (λ (n : ℕ). take n (set out k z)) (add-one k) ∙ take-suc-set out k z h ∙ ap (λ (l : List Float). l ++ (z ∷ [])) e ∙ replicate-append-replicate k 1 z
@@ -155,35 +155,35 @@ fill_step z out k h e = ap (λ (n : ℕ). take n (set out k z)) (add-one k) ∙ 
 -- ---- the rounds
 
 module _ (d i : ℕ) (xs : List Float) (h : i < d) where
-  pub round-step : round_of d (d - i) i xs ≡ and_then (and_then (norm_row (i * d) d xs) (rows_of d i (d - (i + 1)) (i + 1))) (round_of d (d - (i + 1)) (i + 1))
+  pub round_step : round_of d (d - i) i xs ≡ and_then (and_then (norm_row (i * d) d xs) (rows_of d i (d - (i + 1)) (i + 1))) (round_of d (d - (i + 1)) (i + 1))
   unfolding round_of
-  round-step = rw (left-suc d i h, add-one)
+  round_step = rw (left_suc d i h, add-one)
 
   module _ (r : Bool) (ys : List Float) (P : norm_row (i * d) d xs ≡ told r ys) where
-    pub round-fail-1 : r ≡ false → round_of d (d - i) i xs ≡ none
-    round-fail-1 t = round-step ∙ rw (P, t)
+    pub round_fail_1 : r ≡ false → round_of d (d - i) i xs ≡ none
+    round_fail_1 t = round_step ∙ rw (P, t)
 
     module _ (q : Bool) (zs : List Float) (Q : rows_of d i (d - (i + 1)) (i + 1) ys ≡ told q zs) where
-      pub round-fail-2 : r ≡ true → q ≡ false → round_of d (d - i) i xs ≡ none
-      round-fail-2 t u = round-step ∙ rw (P, t, Q, u)
+      pub round_fail_2 : r ≡ true → q ≡ false → round_of d (d - i) i xs ≡ none
+      round_fail_2 t u = round_step ∙ rw (P, t, Q, u)
 
-      pub round-more : r ≡ true → q ≡ true → round_of d (d - i) i xs ≡ round_of d (d - (i + 1)) (i + 1) zs
-      round-more t u = round-step ∙ rw (P, t, Q, u)
+      pub round_more : r ≡ true → q ≡ true → round_of d (d - i) i xs ≡ round_of d (d - (i + 1)) (i + 1) zs
+      round_more t u = round_step ∙ rw (P, t, Q, u)
 
-pub round-end : (d i : ℕ) (xs : List Float) → d ≤ i → round_of d (d - i) i xs ≡ some xs
+pub round_end : (d i : ℕ) (xs : List Float) → d ≤ i → round_of d (d - i) i xs ≡ some xs
 unfolding round_of
-round-end d i xs h = rw (left-none d i h)
+round_end d i xs h = rw (left_none d i h)
 
 module _ (d n k : ℕ) (xs : List Float) where
   module _ (h : k < n) (r : Bool) (ys : List Float) (P : round_of d d 0 xs ≡ told r ys) where
-    pub rounds-fail : r ≡ false → rounds_of d (n - k) xs ≡ none
+    pub rounds_fail : r ≡ false → rounds_of d (n - k) xs ≡ none
     unfolding rounds_of
-    rounds-fail t = rw (left-suc n k h, P, t)
+    rounds_fail t = rw (left_suc n k h, P, t)
 
-    pub rounds-more : r ≡ true → rounds_of d (n - k) xs ≡ rounds_of d (n - (k + 1)) ys
+    pub rounds_more : r ≡ true → rounds_of d (n - k) xs ≡ rounds_of d (n - (k + 1)) ys
     unfolding rounds_of
-    rounds-more t = rw (left-suc n k h, P, t)
+    rounds_more t = rw (left_suc n k h, P, t)
 
-  pub rounds-end : n ≤ k → rounds_of d (n - k) xs ≡ some xs
+  pub rounds_end : n ≤ k → rounds_of d (n - k) xs ≡ some xs
   unfolding rounds_of
-  rounds-end h = rw (left-none n k h)
+  rounds_end h = rw (left_none n k h)

@@ -15,9 +15,9 @@ use Rattle.vector.specs.Fold.{zero32}
 use Rattle.vector.specs.Finite.{all_finite}
 use Rattle.ortho.specs.Ortho.{Written, written, finished, rounds_of, orthonormalized}
 
-pub no-round-copies : (d : ℕ) (xs ys : List Float) → 1 ≤ d → d ≤ 1024 → length xs ≡ d * d → length ys ≡ d * d → all_finite xs ≡ true → orthonormalized d 0 xs ys ≡ written 0 xs
+pub no_round_copies : (d : ℕ) (xs ys : List Float) → 1 ≤ d → d ≤ 1024 → length xs ≡ d * d → length ys ≡ d * d → all_finite xs ≡ true → orthonormalized d 0 xs ys ≡ written 0 xs
 unfolding orthonormalized rounds_of
-no-round-copies d xs ys lo hi p q f = rw (le-leb 1 d lo, le-leb d 1024 hi, eq-eqb (length xs) (d * d) p, eq-eqb (length ys) (d * d) q, f)
+no_round_copies d xs ys lo hi p q f = rw (le-leb 1 d lo, le-leb d 1024 hi, eq-eqb (length xs) (d * d) p, eq-eqb (length ys) (d * d) q, f)
 
 -- the answer, by the three tests and what the rounds gave
 abbrev by : ℕ → List Float → Bool → Bool → Bool → Option (List Float) → Written
@@ -38,10 +38,10 @@ keeps n ys true false c o h k = refl
 keeps n ys false b c o h k = refl
 
 module _ (d r : ℕ) (xs ys : List Float) where
-  pub six-clears : (orthonormalized d r xs ys).refusal ≡ 6 → (orthonormalized d r xs ys).out ≡ replicate (d * d) zero32
+  pub six_clears : (orthonormalized d r xs ys).refusal ≡ 6 → (orthonormalized d r xs ys).out ≡ replicate (d * d) zero32
   unfolding orthonormalized
-  six-clears h = clears (d * d) ys (leb 1 d and leb d 1024 and leb r 8) (eqb (length xs) (d * d) and eqb (length ys) (d * d)) (all_finite xs) (rounds_of d r xs) h
+  six_clears h = clears (d * d) ys (leb 1 d and leb d 1024 and leb r 8) (eqb (length xs) (d * d) and eqb (length ys) (d * d)) (all_finite xs) (rounds_of d r xs) h
 
-  pub refused-keeps : (orthonormalized d r xs ys).refusal ≢ 0 → (orthonormalized d r xs ys).refusal ≢ 6 → (orthonormalized d r xs ys).out ≡ ys
+  pub refused_keeps : (orthonormalized d r xs ys).refusal ≢ 0 → (orthonormalized d r xs ys).refusal ≢ 6 → (orthonormalized d r xs ys).out ≡ ys
   unfolding orthonormalized
-  refused-keeps h k = keeps (d * d) ys (leb 1 d and leb d 1024 and leb r 8) (eqb (length xs) (d * d) and eqb (length ys) (d * d)) (all_finite xs) (rounds_of d r xs) h k
+  refused_keeps h k = keeps (d * d) ys (leb 1 d and leb d 1024 and leb r 8) (eqb (length xs) (d * d) and eqb (length ys) (d * d)) (all_finite xs) (rounds_of d r xs) h k

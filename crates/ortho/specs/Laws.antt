@@ -6,8 +6,8 @@ use Rattle.ortho.specs.Ortho.{written, orthonormalized}
 
 pub record Laws : Type 0 where
   -- no round copies the basis xs over the buffer ys
-  pub no-round-copies : (d : ℕ) (xs ys : List Float) → 1 ≤ d → d ≤ 1024 → length xs ≡ d * d → length ys ≡ d * d → all_finite xs ≡ true → orthonormalized d 0 xs ys ≡ written 0 xs
+  pub no_round_copies : (d : ℕ) (xs ys : List Float) → 1 ≤ d → d ≤ 1024 → length xs ≡ d * d → length ys ≡ d * d → all_finite xs ≡ true → orthonormalized d 0 xs ys ≡ written 0 xs
   -- refusal 6 leaves +0.0 throughout
-  pub six-clears : (d r : ℕ) (xs ys : List Float) → (orthonormalized d r xs ys).refusal ≡ 6 → (orthonormalized d r xs ys).out ≡ replicate (d * d) zero32
+  pub six_clears : (d r : ℕ) (xs ys : List Float) → (orthonormalized d r xs ys).refusal ≡ 6 → (orthonormalized d r xs ys).out ≡ replicate (d * d) zero32
   -- any other leaves the buffer as it was
-  pub refused-keeps : (d r : ℕ) (xs ys : List Float) → (orthonormalized d r xs ys).refusal ≢ 0 → (orthonormalized d r xs ys).refusal ≢ 6 → (orthonormalized d r xs ys).out ≡ ys
+  pub refused_keeps : (d r : ℕ) (xs ys : List Float) → (orthonormalized d r xs ys).refusal ≢ 0 → (orthonormalized d r xs ys).refusal ≢ 6 → (orthonormalized d r xs ys).out ≡ ys

@@ -14,10 +14,10 @@ and_r false true e = refl
 and_r false false e = e
 
 -- a refusal that was not given
-pub refuse-ok : (b : Bool) (k r : ℕ) → (k ≡ 0 → ⊥) → refuse k b r ≡ 0 → b ≡ true
-refuse-ok true k r h e = refl
-refuse-ok false k r h e = absurd (h e)
+pub refuse_ok : (b : Bool) (k r : ℕ) → (k ≡ 0 → ⊥) → refuse k b r ≡ 0 → b ≡ true
+refuse_ok true k r h e = refl
+refuse_ok false k r h e = absurd (h e)
 
-pub refuse-rest : (b : Bool) (k r : ℕ) → (k ≡ 0 → ⊥) → refuse k b r ≡ 0 → r ≡ 0
-refuse-rest true k r h e = e
-refuse-rest false k r h e = absurd (h e)
+pub refuse_rest : (b : Bool) (k r : ℕ) → (k ≡ 0 → ⊥) → refuse k b r ≡ 0 → r ≡ 0
+refuse_rest true k r h e = e
+refuse_rest false k r h e = absurd (h e)

@@ -62,14 +62,14 @@ lengths_of g =
 
 -- what a good geometry gives
 pub record GeoFacts (d n cap mode : ℕ) : Type 0 where
-  pub d-low : 1 ≤ d
-  pub d-high : d ≤ 1024
-  pub n-low : 1 ≤ n
-  pub n-high : n ≤ 32
-  pub cap-low : 64 ≤ cap
-  pub cap-high : cap ≤ 65536
-  pub cap-even : cap % 64 ≡ 0
-  pub mode-ok : mode_ok mode ≡ true
+  pub d_low : 1 ≤ d
+  pub d_high : d ≤ 1024
+  pub n_low : 1 ≤ n
+  pub n_high : n ≤ 32
+  pub cap_low : 64 ≤ cap
+  pub cap_high : cap ≤ 65536
+  pub cap_even : cap % 64 ≡ 0
+  pub mode_known : mode_ok mode ≡ true
 
 -- what a good capacity gives
 pub record CapFacts (cap : ℕ) : Type 0 where

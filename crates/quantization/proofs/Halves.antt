@@ -15,7 +15,7 @@ use lib.Ieee.Nearest.{closest}
 use borrow.Author.Tests.{lt-ltb, le-ltb}
 use Rattle.paper.specs.Choice.{pick}
 use Rattle.sqrt.specs.Root.{sized, mag}
-use Rattle.sqrt.proofs.Near.{mag_is, mag-lt}
+use Rattle.sqrt.proofs.Near.{mag_is, mag_lt}
 use Rattle.quantization.specs.Bf16.{lowered, widened, gap, off, Nearest}
 
 -- ---- lib.Ieee's rounding of a fraction, by the order of the two numbers compared
@@ -28,16 +28,16 @@ at_lt q a b h = go (compare a b) (eqb→eq a b) (nleb→lt a b)
     go Ordering.eq e k = let f : a ≡ b = e tt in absurd (omega arith)
     go Ordering.gt e k = let f : b < a = k tt in absurd (omega arith)
 
-at-eq : (q a b : ℕ) → a ≡ b → nearest q (compare a b) ≡ q + q % 2
-at-eq q a b h = go (compare a b) (subst (λ (x : ℕ). T (eqb a x)) h (eqb_refl a))
+at_eq : (q a b : ℕ) → a ≡ b → nearest q (compare a b) ≡ q + q % 2
+at_eq q a b h = go (compare a b) (subst (λ (x : ℕ). T (eqb a x)) h (eqb_refl a))
   where
     go : (o : Ordering) → T (compare_is_eq o) → nearest q o ≡ q + q % 2
     go Ordering.lt e = absurd e
     go Ordering.eq e = refl
     go Ordering.gt e = absurd e
 
-at-gt : (q a b : ℕ) → b < a → nearest q (compare a b) ≡ q + 1
-at-gt q a b h = go (compare a b) (leb→le a b)
+at_gt : (q a b : ℕ) → b < a → nearest q (compare a b) ≡ q + 1
+at_gt q a b h = go (compare a b) (leb→le a b)
   where
     go : (o : Ordering) → (T (is_le o) → a ≤ b) → nearest q o ≡ q + 1
     go Ordering.lt e = let f : a ≤ b = e tt in absurd (omega arith)
@@ -46,30 +46,30 @@ at-gt q a b h = go (compare a b) (leb→le a b)
 
 -- ---- lowering, by its cases
 
-is-nan : (b : ℕ) → 2139095040 < b % 2147483648 → nan_bits binary32 b ≡ true
-is-nan b h = nan_bits_above binary32 b ∙ lt-ltb 2139095040 (b % 2147483648) h
+is_nan_lem : (b : ℕ) → 2139095040 < b % 2147483648 → nan_bits binary32 b ≡ true
+is_nan_lem b h = nan_bits_above binary32 b ∙ lt-ltb 2139095040 (b % 2147483648) h
 
 is_number : (b : ℕ) → b % 2147483648 ≤ 2139095040 → nan_bits binary32 b ≡ false
 is_number b h = nan_bits_above binary32 b ∙ le-ltb 2139095040 (b % 2147483648) h
 
 -- what a NaN is lowered to: its upper half and bit 0040
-pub lowered-nan : (b : ℕ) → 2139095040 < b % 2147483648 → lowered b ≡ bit_or (b / 65536) 64
+pub lowered_nan : (b : ℕ) → 2139095040 < b % 2147483648 → lowered b ≡ bit_or (b / 65536) 64
 unfolding lowered
-lowered-nan b h = ap (λ (t : Bool). pick t (bit_or (b / 65536) 64) (closest b 65536)) (is-nan b h)
+lowered_nan b h = ap (λ (t : Bool). pick t (bit_or (b / 65536) 64) (closest b 65536)) (is_nan_lem b h)
 
-lowered-number : (b : ℕ) → b % 2147483648 ≤ 2139095040 → lowered b ≡ closest b 65536
+lowered_number : (b : ℕ) → b % 2147483648 ≤ 2139095040 → lowered b ≡ closest b 65536
 unfolding lowered
-lowered-number b h = ap (λ (t : Bool). pick t (bit_or (b / 65536) 64) (closest b 65536)) (is_number b h)
+lowered_number b h = ap (λ (t : Bool). pick t (bit_or (b / 65536) 64) (closest b 65536)) (is_number b h)
 
 -- any other pattern rounds up, to the even one, or down
-pub lowered-up : (b : ℕ) → b % 2147483648 ≤ 2139095040 → 32768 < b % 65536 → lowered b ≡ b / 65536 + 1
-lowered-up b h k = lowered-number b h ∙ at-gt (b / 65536) (b % 65536 * 2) 65536 (omega arith)
+pub lowered_up : (b : ℕ) → b % 2147483648 ≤ 2139095040 → 32768 < b % 65536 → lowered b ≡ b / 65536 + 1
+lowered_up b h k = lowered_number b h ∙ at_gt (b / 65536) (b % 65536 * 2) 65536 (omega arith)
 
-pub lowered-tie : (b : ℕ) → b % 2147483648 ≤ 2139095040 → b % 65536 ≡ 32768 → lowered b ≡ b / 65536 + b / 65536 % 2
-lowered-tie b h k = lowered-number b h ∙ at-eq (b / 65536) (b % 65536 * 2) 65536 (omega arith)
+pub lowered_tie : (b : ℕ) → b % 2147483648 ≤ 2139095040 → b % 65536 ≡ 32768 → lowered b ≡ b / 65536 + b / 65536 % 2
+lowered_tie b h k = lowered_number b h ∙ at_eq (b / 65536) (b % 65536 * 2) 65536 (omega arith)
 
-pub lowered-down : (b : ℕ) → b % 2147483648 ≤ 2139095040 → b % 65536 < 32768 → lowered b ≡ b / 65536
-lowered-down b h k = lowered-number b h ∙ at_lt (b / 65536) (b % 65536 * 2) 65536 (omega arith)
+pub lowered_down : (b : ℕ) → b % 2147483648 ≤ 2139095040 → b % 65536 < 32768 → lowered b ≡ b / 65536
+lowered_down b h k = lowered_number b h ∙ at_lt (b / 65536) (b % 65536 * 2) 65536 (omega arith)
 
 -- the three cases of a pattern that is no NaN, in one
 pub record Rounds (b h : ℕ) : Type 0 where
@@ -77,53 +77,53 @@ pub record Rounds (b h : ℕ) : Type 0 where
   pub tie : b % 65536 ≡ 32768 → h ≡ b / 65536 + b / 65536 % 2
   pub down : b % 65536 < 32768 → h ≡ b / 65536
 
-pub lowered-rounds : (b : ℕ) → b % 2147483648 ≤ 2139095040 → Rounds b (lowered b)
-lowered-rounds b h = record { up = lowered-up b h; tie = lowered-tie b h; down = lowered-down b h }
+pub lowered_rounds : (b : ℕ) → b % 2147483648 ≤ 2139095040 → Rounds b (lowered b)
+lowered_rounds b h = record { up = lowered_up b h; tie = lowered_tie b h; down = lowered_down b h }
 
 -- a half is below 65536
-pub lowered-lt : (b : ℕ) → b < 4294967296 → lowered b < 65536
-lowered-lt b h = go (dec_le (b % 2147483648) 2139095040) (dec_lt (b % 65536) 32768) (dec_lt 32768 (b % 65536))
+pub lowered_lt : (b : ℕ) → b < 4294967296 → lowered b < 65536
+lowered_lt b h = go (dec_le (b % 2147483648) 2139095040) (dec_lt (b % 65536) 32768) (dec_lt 32768 (b % 65536))
   where
     go : Dec (b % 2147483648 ≤ 2139095040) → Dec (b % 65536 < 32768) → Dec (32768 < b % 65536) → lowered b < 65536
-    go (no n) _ _ = rw (lowered-nan b (omega arith)) (or_lt 16 (b / 65536) 64 (omega arith) (omega arith))
-    go (yes n) (yes l) _ = omega (arith, lowered-down b n l)
-    go (yes n) (no l) (yes m) = omega (arith, lowered-up b n m)
-    go (yes n) (no l) (no m) = omega (arith, lowered-tie b n (omega arith))
+    go (no n) _ _ = rw (lowered_nan b (omega arith)) (or_lt 16 (b / 65536) 64 (omega arith) (omega arith))
+    go (yes n) (yes l) _ = omega (arith, lowered_down b n l)
+    go (yes n) (no l) (yes m) = omega (arith, lowered_up b n m)
+    go (yes n) (no l) (no m) = omega (arith, lowered_tie b n (omega arith))
 
 -- ---- widening and lowering again: a half comes back, a NaN's with bit 0040 set (which a quiet NaN has anyway)
 
-pub lowered-widened : (h : ℕ) → lowered (widened h) ≡ pick (nan_bits binary32 (widened h)) (bit_or h 64) h
+pub lowered_widened : (h : ℕ) → lowered (widened h) ≡ pick (nan_bits binary32 (widened h)) (bit_or h 64) h
 unfolding widened
-lowered-widened h = go (dec_le (h * 65536 % 2147483648) 2139095040)
+lowered_widened h = go (dec_le (h * 65536 % 2147483648) 2139095040)
   where
     go : Dec (h * 65536 % 2147483648 ≤ 2139095040) → lowered (h * 65536) ≡ pick (nan_bits binary32 (h * 65536)) (bit_or h 64) h
     go (yes n) =
         let e : h * 65536 / 65536 ≡ h = omega arith in
-        lowered-down (h * 65536) n (omega arith) ∙ e ∙ ap (λ (t : Bool). pick t (bit_or h 64) h) (sym (is_number (h * 65536) n))
+        lowered_down (h * 65536) n (omega arith) ∙ e ∙ ap (λ (t : Bool). pick t (bit_or h 64) h) (sym (is_number (h * 65536) n))
     go (no n) =
         let e : h * 65536 / 65536 ≡ h = omega arith in
         let l : 2139095040 < h * 65536 % 2147483648 = omega arith in
-        lowered-nan (h * 65536) l ∙ ap (λ (x : ℕ). bit_or x 64) e ∙ ap (λ (t : Bool). pick t (bit_or h 64) h) (sym (is-nan (h * 65536) l))
+        lowered_nan (h * 65536) l ∙ ap (λ (x : ℕ). bit_or x 64) e ∙ ap (λ (t : Bool). pick t (bit_or h 64) h) (sym (is_nan_lem (h * 65536) l))
 
 -- so any half but a NaN's is given back
 pub half_back : (h : ℕ) → h % 32768 ≤ 32640 → lowered (widened h) ≡ h
 unfolding widened
-half_back h l = let e : h * 65536 / 65536 ≡ h = omega arith in lowered-down (h * 65536) (omega arith) (omega arith) ∙ e
+half_back h l = let e : h * 65536 / 65536 ≡ h = omega arith in lowered_down (h * 65536) (omega arith) (omega arith) ∙ e
 
 -- ---- between two neighbours of bf16 binary32 goes in equal steps
 
-sized-add : (x t d : ℕ) → sized x (t + d) ≡ sized x t + d * 2 ^ (x - 1)
+sized_add : (x t d : ℕ) → sized x (t + d) ≡ sized x t + d * 2 ^ (x - 1)
 unfolding sized
-sized-add zero t d = omega arith
-sized-add (suc x) t d =
+sized_add zero t d = omega arith
+sized_add (suc x) t d =
     let e : suc x - 1 ≡ x = omega arith in
     let p : (8388608 + t + d) * 2 ^ x ≡ (8388608 + t) * 2 ^ x + d * 2 ^ x = add-mul (8388608 + t) d (2 ^ x) in
     rw (e, ← add_assoc) p
 
-sized-next : (x : ℕ) → sized (suc x) 0 ≡ sized x 8388608
+sized_next : (x : ℕ) → sized (suc x) 0 ≡ sized x 8388608
 unfolding sized
-sized-next zero = refl
-sized-next (suc x) = omega (arith, pow-suc 2 x)
+sized_next zero = refl
+sized_next (suc x) = omega (arith, pow-suc 2 x)
 
 -- the size of a pattern, by the half p below it and what is left
 affine : (p d : ℕ) → d ≤ 65536 → mag (p * 65536 + d) ≡ mag (p * 65536) + d * 2 ^ (p / 128 - 1)
@@ -135,14 +135,14 @@ affine p d h = go (dec_lt (p * 65536 % 8388608 + d) 8388608)
     go : Dec (p * 65536 % 8388608 + d < 8388608) → mag (p * 65536 + d) ≡ mag (p * 65536) + d * 2 ^ (p / 128 - 1)
     go (yes l) =
         mag_is (p * 65536 + d) (p / 128) (p * 65536 % 8388608 + d) (omega arith) (omega arith)
-        ∙ sized-add (p / 128) (p * 65536 % 8388608) d
+        ∙ sized_add (p / 128) (p * 65536 % 8388608) d
         ∙ ap (λ (n : ℕ). n + d * 2 ^ (p / 128 - 1)) (sym here)
     go (no l) =
         let e : p * 65536 % 8388608 + d ≡ 8388608 = omega arith in
         mag_is (p * 65536 + d) (suc (p / 128)) 0 (omega arith) (omega arith)
-        ∙ sized-next (p / 128)
+        ∙ sized_next (p / 128)
         ∙ ap (sized (p / 128)) (sym e)
-        ∙ sized-add (p / 128) (p * 65536 % 8388608) d
+        ∙ sized_add (p / 128) (p * 65536 % 8388608) d
         ∙ ap (λ (n : ℕ). n + d * 2 ^ (p / 128 - 1)) (sym here)
 
 -- ---- the nearest mark on a scale
@@ -180,8 +180,8 @@ module _ (q d x y l : ℕ) (away : ℕ → ℕ) (side : (k : ℕ) → Side q x y
       go (no h) (no g) (upper a b) = let e = tie (omega arith) in let f = same (omega arith) in (omega arith, omega arith)
       go (no h) (no g) (after a b) = let e = tie (omega arith) in let f = same (omega arith) in (omega arith, omega arith)
 
-  chosen-near : (k : ℕ) → away l ≤ away k
-  chosen-near k = go (side k)
+  chosen_near : (k : ℕ) → away l ≤ away k
+  chosen_near k = go (side k)
     where
       go : Side q x y k (away k) → away l ≤ away k
       go (before a b) = omega (arith, chosen)
@@ -189,8 +189,8 @@ module _ (q d x y l : ℕ) (away : ℕ → ℕ) (side : (k : ℕ) → Side q x y
       go (upper a b) = omega (arith, chosen)
       go (after a b) = omega (arith, chosen)
 
-  chosen-even : (k : ℕ) → k ≢ l → away l ≡ away k → l % 2 ≡ 0
-  chosen-even k n e = go (dec_lt d 32768) (dec_lt 32768 d) (side k)
+  chosen_even : (k : ℕ) → k ≢ l → away l ≡ away k → l % 2 ≡ 0
+  chosen_even k n e = go (dec_lt d 32768) (dec_lt 32768 d) (side k)
     where
       go : Dec (d < 32768) → Dec (32768 < d) → Side q x y k (away k) → l % 2 ≡ 0
       go (yes h) _ (before a b) = absurd (omega (arith, chosen, less h))
@@ -219,9 +219,9 @@ module _ (q d x y l : ℕ) (away : ℕ → ℕ) (side : (k : ℕ) → Side q x y
       differ : (h ≡ l → ⊥) → ⊥
       differ n =
           let a : away h ≤ away l = best.near l in
-          let b : away l ≤ away h = chosen-near h in
+          let b : away l ≤ away h = chosen_near h in
           let e : h % 2 ≡ 0 = best.even l (λ i. n (sym i)) (omega arith) in
-          let f : l % 2 ≡ 0 = chosen-even h n (omega arith) in
+          let f : l % 2 ≡ 0 = chosen_even h n (omega arith) in
           let s = beside h a in
           let t = beside l (le_refl (away l)) in
           n (omega arith)
@@ -248,14 +248,14 @@ module _ (q d : ℕ) (h : d < 65536) where
     where
       go : Dec (k < q) → Dec (q < k) → Dec (q + 1 < k)
           → Side q (d * 2 ^ (q / 128 - 1)) (65536 * 2 ^ (q / 128 - 1) - d * 2 ^ (q / 128 - 1)) k (gap (mag (k * 65536)) (mag (q * 65536 + d)))
-      go (yes l) _ _ = before l (omega (arith, here, mag-lt (k * 65536) (q * 65536) (omega arith)))
+      go (yes l) _ _ = before l (omega (arith, here, mag_lt (k * 65536) (q * 65536) (omega arith)))
       go (no l) (no m) _ =
           let e : k ≡ q = omega arith in
           lower e (rw e (omega (arith, here)))
       go (no l) (yes m) (no n) =
           let e : k ≡ q + 1 = omega arith in
           upper e (rw e (omega (arith, here, next, part)))
-      go (no l) (yes m) (yes n) = after n (omega (arith, here, next, part, mag-lt ((q + 1) * 65536) (k * 65536) (omega arith)))
+      go (no l) (yes m) (yes n) = after n (omega (arith, here, next, part, mag_lt ((q + 1) * 65536) (k * 65536) (omega arith)))
 
   less : d < 32768 → d * 2 ^ (q / 128 - 1) < 65536 * 2 ^ (q / 128 - 1) - d * 2 ^ (q / 128 - 1)
   less l =
@@ -292,14 +292,14 @@ module _ (b : ℕ) (fits : b < 4294967296) (number : b % 2147483648 ≤ 21390950
 
   -- what `lowered` gives, the sign taken off
   low : b % 65536 < 32768 → lowered b % 32768 ≡ b % 2147483648 / 65536
-  low h = omega (arith, lowered-down b number h)
+  low h = omega (arith, lowered_down b number h)
 
   high : 32768 < b % 65536 → lowered b % 32768 ≡ b % 2147483648 / 65536 + 1
-  high h = omega (arith, lowered-up b number h)
+  high h = omega (arith, lowered_up b number h)
 
   middle : b % 65536 ≡ 32768 → lowered b % 32768 ≡ b % 2147483648 / 65536 + b % 2147483648 / 65536 % 2
   middle h =
-      let t : lowered b ≡ b / 65536 + b / 65536 % 2 = lowered-tie b number h in
+      let t : lowered b ≡ b / 65536 + b / 65536 % 2 = lowered_tie b number h in
       let e : b / 65536 % 32768 ≡ b % 2147483648 / 65536 = omega arith in
       let f : b / 65536 % 2 ≡ b % 2147483648 / 65536 % 2 = omega arith in
       let g : b % 2147483648 / 65536 < 32640 = omega arith in
@@ -309,27 +309,27 @@ module _ (b : ℕ) (fits : b < 4294967296) (number : b % 2147483648 ≤ 21390950
   signed = go (dec_lt (b % 65536) 32768) (dec_lt 32768 (b % 65536))
     where
       go : Dec (b % 65536 < 32768) → Dec (32768 < b % 65536) → lowered b / 32768 ≡ b / 2147483648
-      go (yes h) _ = omega (arith, lowered-down b number h)
-      go (no h) (yes g) = omega (arith, lowered-up b number g)
-      go (no h) (no g) = omega (arith, lowered-tie b number (omega arith))
+      go (yes h) _ = omega (arith, lowered_down b number h)
+      go (no h) (yes g) = omega (arith, lowered_up b number g)
+      go (no h) (no g) = omega (arith, lowered_tie b number (omega arith))
 
-  pub lowered-nearest : Nearest b (lowered b)
-  lowered-nearest = record {
+  pub lowered_nearest : Nearest b (lowered b)
+  lowered_nearest = record {
     sign = signed;
     near =
-        chosen-near (b % 2147483648 / 65536) (b % 65536) _ _ (lowered b % 32768) (off b) side
+        chosen_near (b % 2147483648 / 65536) (b % 65536) _ _ (lowered b % 32768) (off b) side
         (less (b % 2147483648 / 65536) (b % 65536) (omega arith)) (more (b % 2147483648 / 65536) (b % 65536) (omega arith)) (same (b % 2147483648 / 65536) (b % 65536) (omega arith))
         low high middle;
     even = λ k n e.
         let f : lowered b % 32768 % 2 ≡ 0 =
-        chosen-even (b % 2147483648 / 65536) (b % 65536) _ _ (lowered b % 32768) (off b) side
+        chosen_even (b % 2147483648 / 65536) (b % 65536) _ _ (lowered b % 32768) (off b) side
         (less (b % 2147483648 / 65536) (b % 65536) (omega arith)) (more (b % 2147483648 / 65536) (b % 65536) (omega arith)) (same (b % 2147483648 / 65536) (b % 65536) (omega arith))
         low high middle k n e in
         omega arith;
   }
 
-  pub nearest-only : (h : ℕ) → Nearest b h → h ≡ lowered b
-  nearest-only h n =
+  pub nearest_only : (h : ℕ) → Nearest b h → h ≡ lowered b
+  nearest_only h n =
       let e : h % 32768 ≡ lowered b % 32768 =
       only (b % 2147483648 / 65536) (b % 65536) _ _ (lowered b % 32768) (off b) side
       (less (b % 2147483648 / 65536) (b % 65536) (omega arith)) (more (b % 2147483648 / 65536) (b % 65536) (omega arith)) (same (b % 2147483648 / 65536) (b % 65536) (omega arith))

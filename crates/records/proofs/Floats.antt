@@ -9,20 +9,20 @@ use lib.Seq.{take-suc-set, take_all}
 use lib.Ieee.{Float, binary32, of_bits}
 use Rattle.records.specs.Fields.{u32_at, floats_at}
 
-pub floats-turn : (n : ℕ) (s : List ℕ) (out : List Float) (i at : ℕ) → i < length out → i < n
+pub floats_turn : (n : ℕ) (s : List ℕ) (out : List Float) (i at : ℕ) → i < length out → i < n
     → take (i + 1) (set out i (of_bits binary32 (u32_at s at))) ++ floats_at (n - (i + 1)) s (at + 4) ≡ take i out ++ floats_at (n - i) s at
 unfolding floats_at
-floats-turn n s out i at h k =
+floats_turn n s out i at h k =
     let e : n - i ≡ suc (n - (i + 1)) = omega arith in
     rw (e, add-one i, take-suc-set out i (of_bits binary32 (u32_at s at)) h, append_assoc) refl
 
-pub floats-end : (n : ℕ) (s : List ℕ) (out : List Float) (i at : ℕ) → length out ≡ i → n ≡ i → take i out ++ floats_at (n - i) s at ≡ out
+pub floats_end : (n : ℕ) (s : List ℕ) (out : List Float) (i at : ℕ) → length out ≡ i → n ≡ i → take i out ++ floats_at (n - i) s at ≡ out
 unfolding floats_at
-floats-end n s out i at h k =
+floats_end n s out i at h k =
     let e : n - i ≡ 0 = omega arith in
     rw (e, take_all i out (omega arith), append-nil)
 
-pub floats-length : (k : ℕ) (s : List ℕ) (at : ℕ) → length (floats_at k s at) ≡ k
+pub floats_length : (k : ℕ) (s : List ℕ) (at : ℕ) → length (floats_at k s at) ≡ k
 unfolding floats_at
-floats-length zero s at = refl
-floats-length (suc k) s at = ap suc (floats-length k s (at + 4))
+floats_length zero s at = refl
+floats_length (suc k) s at = ap suc (floats_length k s (at + 4))

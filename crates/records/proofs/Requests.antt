@@ -40,9 +40,9 @@ pub cut : (s : List ℕ) (g : Session) → within_limits g ≡ true → length s
 unfolding request_of
 cut s g f h = rw (f, lt-leb 2 (length s) h) refl
 
-pub of-kind : (s : List ℕ) (g : Session) (k : ℕ) (r : Request) → within_limits g ≡ true → 2 ≤ length s → k ≡ u16_at s 0 → r ≡ kind_of k s g → r ≡ request_of s g
+pub of_kind : (s : List ℕ) (g : Session) (k : ℕ) (r : Request) → within_limits g ≡ true → 2 ≤ length s → k ≡ u16_at s 0 → r ≡ kind_of k s g → r ≡ request_of s g
 unfolding request_of
-of-kind s g k r f h e q = q ∙ rw (f, le-leb 2 (length s) h, ← e) refl
+of_kind s g k r f h e q = q ∙ rw (f, le-leb 2 (length s) h, ← e) refl
 
 pub unknown : (s : List ℕ) (g : Session) (k : ℕ) → (k ≡ 1 → ⊥) → (k ≡ 2 → ⊥) → (k ≡ 3 → ⊥) → (k ≡ 5 → ⊥) → Refuse 15 ≡ kind_of k s g
 unknown s g k a b c d = rw (ne_eqb k 1 a, ne_eqb k 2 b, ne_eqb k 3 c, ne_eqb k 5 d) refl
@@ -50,39 +50,39 @@ unknown s g k a b c d = rw (ne_eqb k 1 a, ne_eqb k 2 b, ne_eqb k 3 c, ne_eqb k 5
 -- ---- what a request that is not refused tells of the record and the session
 
 module _ (s : List ℕ) (g : Session) where
-  demand-fits : (num : ℕ) (b : Bool) (q : Request) → (b ≡ true → Fits q s g) → Fits (demand num b q) s g
-  demand-fits num true q h = h refl
-  demand-fits num false q h = tt
+  demand_fits : (num : ℕ) (b : Bool) (q : Request) → (b ≡ true → Fits q s g) → Fits (demand num b q) s g
+  demand_fits num true q h = h refl
+  demand_fits num false q h = tt
 
-  pick-fits : (b : Bool) (p q : Request) → Fits p s g → Fits q s g → Fits (pick b p q) s g
-  pick-fits true p q x y = x
-  pick-fits false p q x y = y
+  pick_fits : (b : Bool) (p q : Request) → Fits p s g → Fits q s g → Fits (pick b p q) s g
+  pick_fits true p q x y = x
+  pick_fits false p q x y = y
 
-  geometry-fits : Fits (geometry_of s g) s g
+  geometry_fits_lem : Fits (geometry_of s g) s g
   unfolding geometry_of
-  geometry-fits = demand-fits 1 (eqb g.stage 0) _ (λ _. demand-fits 2 (eqb (length s) 11) _ (λ _. demand-fits 1 (geometry_fits (u16_at s 2) (u16_at s 4) (u32_at s 6) (get_or s 10 0)) _ (λ f. f)))
+  geometry_fits_lem = demand_fits 1 (eqb g.stage 0) _ (λ _. demand_fits 2 (eqb (length s) 11) _ (λ _. demand_fits 1 (geometry_fits (u16_at s 2) (u16_at s 4) (u32_at s 6) (get_or s 10 0)) _ (λ f. f)))
 
   module _ (l : Limits g) where
-    basis-fits : Fits (basis_of s g) s g
+    basis_fits : Fits (basis_of s g) s g
     unfolding basis_of
-    basis-fits =
-        demand-fits 1 (eqb g.stage 1) _ (λ _. demand-fits 2 (eqb (length s) (4 + 4 * (g.d * g.d))) _
-        (λ e. demand-fits 1 (ltb (u16_at s 2) g.n) _ (λ h. (l, ltb-true (u16_at s 2) g.n h, eqb-true (length s) (4 + 4 * (g.d * g.d)) e))))
+    basis_fits =
+        demand_fits 1 (eqb g.stage 1) _ (λ _. demand_fits 2 (eqb (length s) (4 + 4 * (g.d * g.d))) _
+        (λ e. demand_fits 1 (ltb (u16_at s 2) g.n) _ (λ h. (l, ltb-true (u16_at s 2) g.n h, eqb-true (length s) (4 + 4 * (g.d * g.d)) e))))
 
-    addition-fits : Fits (addition_of s g) s g
+    addition_fits : Fits (addition_of s g) s g
     unfolding addition_of
-    addition-fits =
-        demand-fits 1 (not (eqb g.stage 0)) _ (λ _. demand-fits 2 (eqb (length s) (6 + 4 * g.d)) _ (λ e. (l, eqb-true (length s) (6 + 4 * g.d) e)))
+    addition_fits =
+        demand_fits 1 (not (eqb g.stage 0)) _ (λ _. demand_fits 2 (eqb (length s) (6 + 4 * g.d)) _ (λ e. (l, eqb-true (length s) (6 + 4 * g.d) e)))
 
-    search-fits : Fits (search_of s g) s g
+    search_fits : Fits (search_of s g) s g
     unfolding search_of
-    search-fits =
-        demand-fits 1 (not (eqb g.stage 0)) _ (λ _. demand-fits 2 (eqb (length s) (10 + 4 * g.d)) _ (λ e. (l, eqb-true (length s) (10 + 4 * g.d) e)))
+    search_fits =
+        demand_fits 1 (not (eqb g.stage 0)) _ (λ _. demand_fits 2 (eqb (length s) (10 + 4 * g.d)) _ (λ e. (l, eqb-true (length s) (10 + 4 * g.d) e)))
 
     kind_fits : (k : ℕ) → Fits (kind_of k s g) s g
     kind_fits k =
-        pick-fits (eqb k 1) _ _ geometry-fits (pick-fits (eqb k 2) _ _ basis-fits (pick-fits (eqb k 3) _ _ addition-fits (pick-fits (eqb k 5) _ _ search-fits tt)))
+        pick_fits (eqb k 1) _ _ geometry_fits_lem (pick_fits (eqb k 2) _ _ basis_fits (pick_fits (eqb k 3) _ _ addition_fits (pick_fits (eqb k 5) _ _ search_fits tt)))
 
-  pub request-fits : Fits (request_of s g) s g
+  pub request_fits : Fits (request_of s g) s g
   unfolding request_of
-  request-fits = demand-fits 1 (within_limits g) _ (λ f. demand-fits 15 (leb 2 (length s)) _ (λ _. kind_fits (limits g f) (u16_at s 0)))
+  request_fits = demand_fits 1 (within_limits g) _ (λ f. demand_fits 15 (leb 2 (length s)) _ (λ _. kind_fits (limits g f) (u16_at s 0)))

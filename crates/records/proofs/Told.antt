@@ -18,13 +18,13 @@ told kind num xs =
     (pick (eqb kind 2) (Basis (x 0))
     (pick (eqb kind 3) (Add (x 0)) (Search (x 0) (x 1) (x 2)))))
 
-told-back : (q : Request) → told (request_kind q) (request_refusal q) (request_values q) ≡ q
+told_back : (q : Request) → told (request_kind q) (request_refusal q) (request_values q) ≡ q
 unfolding told
-told-back (Refuse num) = refl
-told-back (Geometry d n cap mode) = refl
-told-back (Basis b) = refl
-told-back (Add id) = refl
-told-back (Search k wanted spill) = refl
+told_back (Refuse num) = refl
+told_back (Geometry d n cap mode) = refl
+told_back (Basis b) = refl
+told_back (Add id) = refl
+told_back (Search k wanted spill) = refl
 
-pub one-request : (q r : Request) → request_kind q ≡ request_kind r → request_refusal q ≡ request_refusal r → request_values q ≡ request_values r → q ≡ r
-one-request q r k n v = sym (told-back q) ∙ (λ i. told (k i) (n i) (v i)) ∙ told-back r
+pub one_request : (q r : Request) → request_kind q ≡ request_kind r → request_refusal q ≡ request_refusal r → request_values q ≡ request_values r → q ≡ r
+one_request q r k n v = sym (told_back q) ∙ (λ i. told (k i) (n i) (v i)) ∙ told_back r

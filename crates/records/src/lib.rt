@@ -142,7 +142,7 @@ fn search_of(s: &[u8], g: Session) -> Request
 
 // What a record, its kind and its body, asks for. It refuses 15 for a kind that it does not know, 1 for a record that may
 // not come now, 2 for its length, 1 for a field, in this order; and 1 before all of them for a session beyond the program's limits, which no run
-// comes to (law run-within of steps).
+// comes to (law run_within of steps).
 pub fn asked(s: &[u8], g: Session) -> Request
     ensures { result ≡ request_of s.now g }
 {

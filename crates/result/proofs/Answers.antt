@@ -19,74 +19,74 @@ use Rattle.result.specs.Sets.{well_formed, entries_of, holding, counted, fed_set
 use Rattle.result.specs.declared.ResultSet.{ResultSet}
 use Rattle.result.specs.declared.inner.Place.{Place}
 use Rattle.result.specs.declared.inner.Place.TheVariants.{At, Held}
-use Rattle.result.proofs.Walk.{length-entries, get_d-entries}
-use Rattle.result.proofs.Puts.{len_is, hold-same}
+use Rattle.result.proofs.Walk.{length_entries, get_d_entries}
+use Rattle.result.proofs.Puts.{len_is, hold_same}
 
 -- ---- whether a full list stays: the test on the arrays is the test on the list
 
-and-false : (b : Bool) → b and false ≡ false
-and-false true = refl
-and-false false = refl
+and_false : (b : Bool) → b and false ≡ false
+and_false true = refl
+and_false false = refl
 
-last-at : (before : Float → Float → Bool) (e d x : Entry) (xs : List Entry) → last_before before e (x ∷ xs) ≡ before (get_or (x ∷ xs) (length xs) d).sim e.sim
-last-at before e d x [] = refl
-last-at before e d x (y ∷ ys) = last-at before e d y ys
+last_at : (before : Float → Float → Bool) (e d x : Entry) (xs : List Entry) → last_before before e (x ∷ xs) ≡ before (get_or (x ∷ xs) (length xs) d).sim e.sim
+last_at before e d x [] = refl
+last_at before e d x (y ∷ ys) = last_at before e d y ys
 
-last-is : (before : Float → Float → Bool) (e : Entry) (n : ℕ) (is : List ℕ) (ss : List Float) → suc n ≤ length is → suc n ≤ length ss
+last_is : (before : Float → Float → Bool) (e : Entry) (n : ℕ) (is : List ℕ) (ss : List Float) → suc n ≤ length is → suc n ≤ length ss
     → last_before before e (entries (suc n) is ss) ≡ before (get_or ss n nan) e.sim
-last-is before e n [] ss h k = absurd (omega arith)
-last-is before e n (i ∷ is) [] h k = absurd (omega arith)
-last-is before e n (i ∷ is) (s ∷ ss) h k =
-    let l = length-entries n is ss (omega arith) (omega arith) in
-    last-at before e (entry 0 nan) (entry i s) (entries n is ss)
+last_is before e n [] ss h k = absurd (omega arith)
+last_is before e n (i ∷ is) [] h k = absurd (omega arith)
+last_is before e n (i ∷ is) (s ∷ ss) h k =
+    let l = length_entries n is ss (omega arith) (omega arith) in
+    last_at before e (entry 0 nan) (entry i s) (entries n is ss)
     ∙ ap (λ (j : ℕ). before (get_or (entry i s ∷ entries n is ss) j (entry 0 nan)).sim e.sim) l
-    ∙ ap (λ (x : Entry). before x.sim e.sim) (get_d-entries (suc n) (i ∷ is) (s ∷ ss) n (entry 0 nan) h k (omega arith))
+    ∙ ap (λ (x : Entry). before x.sim e.sim) (get_d_entries (suc n) (i ∷ is) (s ∷ ss) n (entry 0 nan) h k (omega arith))
 
-pub stays-is : (k : ℕ) (e : Entry) (n : ℕ) (is : List ℕ) (ss : List Float) → n ≤ length is → n ≤ length ss
+pub stays_is : (k : ℕ) (e : Entry) (n : ℕ) (is : List ℕ) (ss : List Float) → n ≤ length is → n ≤ length ss
     → full_above n k ss e.sim ≡ stays larger k e (entries n is ss)
-stays-is k e zero is ss h l = refl
-stays-is k e (suc n) is ss h l =
-    let m = length-entries (suc n) is ss h l in
+stays_is k e zero is ss h l = refl
+stays_is k e (suc n) is ss h l =
+    let m = length_entries (suc n) is ss h l in
     let q : suc n - 1 ≡ n = omega arith in
-    rw (m, q, last-is larger e n is ss h l, le-leb 1 (suc n) (omega arith))
+    rw (m, q, last_is larger e n is ss h l, le-leb 1 (suc n) (omega arith))
 
 -- the same of a set
-pub set-stays : (s : ResultSet) (e : Entry) → s.len ≤ length s.ids → s.len ≤ length s.sims → full_above s.len s.k s.sims e.sim ≡ stays larger s.k e (entries_of s)
+pub set_stays : (s : ResultSet) (e : Entry) → s.len ≤ length s.ids → s.len ≤ length s.sims → full_above s.len s.k s.sims e.sim ≡ stays larger s.k e (entries_of s)
 unfolding entries_of
-set-stays s e hi hs = stays-is s.k e s.len s.ids s.sims hi hs
+set_stays s e hi hs = stays_is s.k e s.len s.ids s.sims hi hs
 
 -- the answers of the test
 module _ (k : ℕ) (sims : List Float) (x : Float) where
-  pub full-room : (n : ℕ) → (n ≡ k → ⊥) → false ≡ full_above n k sims x
-  full-room n h = rw (ne_eqb n k h)
+  pub full_room : (n : ℕ) → (n ≡ k → ⊥) → false ≡ full_above n k sims x
+  full_room n h = rw (ne_eqb n k h)
 
-  pub full-none : (n : ℕ) → n ≡ 0 → false ≡ full_above n k sims x
-  full-none zero h = sym (and-false (eqb 0 k))
-  full-none (suc n) h = absurd (omega arith)
+  pub full_none : (n : ℕ) → n ≡ 0 → false ≡ full_above n k sims x
+  full_none zero h = sym (and_false (eqb 0 k))
+  full_none (suc n) h = absurd (omega arith)
 
-  pub full-last : (n : ℕ) → n ≡ k → (n ≡ 0 → ⊥) → lt x (get_or sims (n - 1) nan) ≡ full_above n k sims x
-  full-last zero h z = absurd (z refl)
-  full-last (suc n) h z = rw (eq-eqb (suc n) k h, le-leb 1 (suc n) (omega arith))
+  pub full_last : (n : ℕ) → n ≡ k → (n ≡ 0 → ⊥) → lt x (get_or sims (n - 1) nan) ≡ full_above n k sims x
+  full_last zero h z = absurd (z refl)
+  full_last (suc n) h z = rw (eq-eqb (suc n) k h, le-leb 1 (suc n) (omega arith))
 
 -- ---- an accepted entry
 
 module _ (s : ResultSet) (e : Entry) (hi : s.len ≤ length s.ids) (hs : s.len ≤ length s.sims) (hk : s.len ≤ s.k) where
-  pub fed-stays : full_above s.len s.k s.sims e.sim ≡ true → counted s ≡ fed_set s e
+  pub fed_stays : full_above s.len s.k s.sims e.sim ≡ true → counted s ≡ fed_set s e
   unfolding fed_set fed entries_of
-  fed-stays b = rw (sym (set-stays s e hi hs) ∙ b) (sym (hold-same (counted s) hi hs))
+  fed_stays b = rw (sym (set_stays s e hi hs) ∙ b) (sym (hold_same (counted s) hi hs))
 
-  pub fed-held : full_above s.len s.k s.sims e.sim ≡ false → entries_of s ≡ placed larger e (entries_of s) → counted s ≡ fed_set s e
+  pub fed_held : full_above s.len s.k s.sims e.sim ≡ false → entries_of s ≡ placed larger e (entries_of s) → counted s ≡ fed_set s e
   unfolding fed_set fed entries_of
-  fed-held b p =
+  fed_held b p =
       let n = len_is s hi hs in
       let t : take s.k (placed larger e (entries_of s)) ≡ entries_of s =
       ap (λ (r : List Entry). take s.k r) (sym p) ∙ take_all s.k (entries_of s) (omega arith) in
-      rw (sym (set-stays s e hi hs) ∙ b) (sym (ap (λ (r : List Entry). holding (counted s) r) t ∙ hold-same (counted s) hi hs))
+      rw (sym (set_stays s e hi hs) ∙ b) (sym (ap (λ (r : List Entry). holding (counted s) r) t ∙ hold_same (counted s) hi hs))
 
-  pub fed-put : (i : ℕ) (r : ResultSet) → full_above s.len s.k s.sims e.sim ≡ false → insert_at i e (entries_of s) ≡ placed larger e (entries_of s)
+  pub fed_put : (i : ℕ) (r : ResultSet) → full_above s.len s.k s.sims e.sim ≡ false → insert_at i e (entries_of s) ≡ placed larger e (entries_of s)
       → r ≡ put_in (counted s) (insert_at i e (entries_of s)) → r ≡ fed_set s e
   unfolding fed_set fed
-  fed-put i r b p q = rw (sym (set-stays s e hi hs) ∙ b) (q ∙ ap (λ (l : List Entry). put_in (counted s) l) p)
+  fed_put i r b p q = rw (sym (set_stays s e hi hs) ∙ b) (q ∙ ap (λ (l : List Entry). put_in (counted s) l) p)
 
 -- the same arrays with another count: one more is counted, whatever the count was
 pub recount : (s : ResultSet) (e : Entry) (is : List ℕ) (ss : List Float) (n : ℕ)
@@ -97,8 +97,8 @@ recount s e is ss n h = ap (λ (r : ResultSet). set_of r.ids r.sims r.len r.k (s
 -- ---- a place that was found
 
 module _ {n : ℕ} {ids : List ℕ} {sims : List Float} {e : Entry} {p : Place} (f : Found n ids sims e p) where
-  pub found-held : p ≡ Held → entries n ids sims ≡ placed larger e (entries n ids sims)
-  found-held q = ap (λ (r : Place). put r e (entries n ids sims)) (sym q) ∙ f.same
+  pub found_held : p ≡ Held → entries n ids sims ≡ placed larger e (entries n ids sims)
+  found_held q = ap (λ (r : Place). put r e (entries n ids sims)) (sym q) ∙ f.same
 
   pub found_within : (i : ℕ) → p ≡ At i → i ≤ n
   found_within i q = subst (λ (r : Place). Within n r) q f.within
@@ -109,26 +109,26 @@ module _ {n : ℕ} {ids : List ℕ} {sims : List Float} {e : Entry} {p : Place} 
 -- ---- a set's form
 
 module _ (s : ResultSet) where
-  pub form-k : 256 < s.k → false ≡ well_formed s
+  pub form_k : 256 < s.k → false ≡ well_formed s
   unfolding well_formed
-  form-k h = rw (lt-leb s.k 256 h)
+  form_k h = rw (lt-leb s.k 256 h)
 
-  pub form-len : s.k ≤ 256 → s.k < s.len → false ≡ well_formed s
+  pub form_len : s.k ≤ 256 → s.k < s.len → false ≡ well_formed s
   unfolding well_formed
-  form-len h l = rw (le-leb s.k 256 h, lt-leb s.len s.k l)
+  form_len h l = rw (le-leb s.k 256 h, lt-leb s.len s.k l)
 
-  pub form-rest : (a b c : Bool) → s.k ≤ 256 → s.len ≤ s.k → a ≡ all_of is_held (take s.len s.sims) → b ≡ all_of is_blank (drop s.len s.sims)
+  pub form_rest : (a b c : Bool) → s.k ≤ 256 → s.len ≤ s.k → a ≡ all_of is_held (take s.len s.sims) → b ≡ all_of is_blank (drop s.len s.sims)
       → c ≡ all_of is_zero (drop s.len s.ids) → (a and b and c) ≡ well_formed s
   unfolding well_formed
-  form-rest a b c h l p q r = rw (le-leb s.k 256 h, le-leb s.len s.k l) (λ i. p i and q i and r i)
+  form_rest a b c h l p q r = rw (le-leb s.k 256 h, le-leb s.len s.k l) (λ i. p i and q i and r i)
 
   -- what a well formed set has
   pub record Form : Type 0 where
     pub short : s.len ≤ s.k
     pub small : s.k ≤ 256
     pub held : all_of is_held (take s.len s.sims) ≡ true
-    pub blank-sims : all_of is_blank (drop s.len s.sims) ≡ true
-    pub blank-ids : all_of is_zero (drop s.len s.ids) ≡ true
+    pub blank_sims : all_of is_blank (drop s.len s.sims) ≡ true
+    pub blank_ids : all_of is_zero (drop s.len s.ids) ≡ true
 
   pub form : well_formed s ≡ true → Form
   unfolding well_formed
@@ -140,38 +140,38 @@ module _ (s : ResultSet) where
         short = leb-true _ _ (and_l (leb s.len s.k) _ w1);
         small = leb-true _ _ (and_l (leb s.k 256) _ w);
         held = and_l (all_of is_held (take s.len s.sims)) _ w2;
-        blank-sims = and_l (all_of is_blank (drop s.len s.sims)) _ w3;
-        blank-ids = and_r (all_of is_blank (drop s.len s.sims)) _ w3;
+        blank_sims = and_l (all_of is_blank (drop s.len s.sims)) _ w3;
+        blank_ids = and_r (all_of is_blank (drop s.len s.sims)) _ w3;
       }
 
 -- ---- the refusals of a feed
 
 module _ (s : ResultSet) (id : ℕ) (score : Float) where
-  pub refused-13 : false ≡ well_formed s → answer 13 s ≡ feed_of s id score
+  pub refused_13 : false ≡ well_formed s → answer 13 s ≡ feed_of s id score
   unfolding feed_of feed_refusal
-  refused-13 w = rw (sym w)
+  refused_13 w = rw (sym w)
 
-  pub refused-10 : well_formed s ≡ true → is_nan score ≡ true → answer 10 s ≡ feed_of s id score
+  pub refused_10 : well_formed s ≡ true → is_nan score ≡ true → answer 10 s ≡ feed_of s id score
   unfolding feed_of feed_refusal
-  refused-10 w n = rw (w, n)
+  refused_10 w n = rw (w, n)
 
-  pub refused-12 : well_formed s ≡ true → is_nan score ≡ false → s.checked ≡ 4294967295 → answer 12 s ≡ feed_of s id score
+  pub refused_12 : well_formed s ≡ true → is_nan score ≡ false → s.checked ≡ 4294967295 → answer 12 s ≡ feed_of s id score
   unfolding feed_of feed_refusal
-  refused-12 w n f = rw (w, n, eq-eqb s.checked 4294967295 f)
+  refused_12 w n f = rw (w, n, eq-eqb s.checked 4294967295 f)
 
   pub accepted : (r : ResultSet) → well_formed s ≡ true → is_nan score ≡ false → (s.checked ≡ 4294967295 → ⊥)
       → r ≡ fed_set s (entry id score) → answer 0 r ≡ feed_of s id score
   unfolding feed_of feed_refusal
   accepted r w n f q = rw (w, n, ne_eqb s.checked 4294967295 f) (ap (λ (t : ResultSet). answer 0 t) q)
 
-pub below-max : (n m : ℕ) → n < m + 1 → (n ≡ m → ⊥) → n < m
-below-max n m h e = omega arith
+pub below_max : (n m : ℕ) → n < m + 1 → (n ≡ m → ⊥) → n < m
+below_max n m h e = omega arith
 
 -- ---- the answers of making a set
 
-pub made-refused : (k : ℕ) (r : ResultSet) → 256 < k → r ≡ empty_set 0 → answer 4 r ≡ made_of k
+pub made_refused : (k : ℕ) (r : ResultSet) → 256 < k → r ≡ empty_set 0 → answer 4 r ≡ made_of k
 unfolding made_of
-made-refused k r h q = rw (lt-leb k 256 h) (ap (λ (t : ResultSet). answer 4 t) q)
+made_refused k r h q = rw (lt-leb k 256 h) (ap (λ (t : ResultSet). answer 4 t) q)
 
 pub made : (k : ℕ) (r : ResultSet) → k ≤ 256 → r ≡ empty_set k → answer 0 r ≡ made_of k
 unfolding made_of

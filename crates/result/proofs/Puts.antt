@@ -14,7 +14,7 @@ use Rattle.result.specs.Places.{entries}
 use Rattle.result.specs.Puts.{put_in}
 use Rattle.result.specs.Sets.{entries_of, over, holding}
 use Rattle.result.specs.declared.ResultSet.{ResultSet}
-use Rattle.result.proofs.Walk.{length-entries}
+use Rattle.result.proofs.Walk.{length_entries}
 
 -- the set with the entry put in at i of its two arrays, up to n, and n for its length
 abbrev pub shifted_to : ResultSet → ℕ → ℕ → Entry → ResultSet
@@ -29,57 +29,57 @@ shifted_to s i n e = record {
 -- ---- an insertion, and what is cut from it
 
 module _ {A : Type 0} where
-  length-insert : (i : ℕ) (a : A) (xs : List A) → i ≤ length xs → length (insert_at i a xs) ≡ suc (length xs)
-  length-insert zero a xs h = refl
-  length-insert (suc i) a [] h = absurd (not-suc-le-zero h)
-  length-insert (suc i) a (x ∷ xs) h = ap suc (length-insert i a xs (le_of_suc-le-suc h))
+  length_insert : (i : ℕ) (a : A) (xs : List A) → i ≤ length xs → length (insert_at i a xs) ≡ suc (length xs)
+  length_insert zero a xs h = refl
+  length_insert (suc i) a [] h = absurd (not-suc-le-zero h)
+  length_insert (suc i) a (x ∷ xs) h = ap suc (length_insert i a xs (le_of_suc-le-suc h))
 
-  insert-take : (i n : ℕ) (a : A) (xs : List A) → i ≤ n → insert_at i a (take n xs) ≡ take (suc n) (insert_at i a xs)
-  insert-take zero n a xs h = refl
-  insert-take (suc i) zero a xs h = absurd (not-suc-le-zero h)
-  insert-take (suc i) (suc n) a [] h = refl
-  insert-take (suc i) (suc n) a (x ∷ xs) h = ap (λ (r : List A). x ∷ r) (insert-take i n a xs (le_of_suc-le-suc h))
+  insert_take : (i n : ℕ) (a : A) (xs : List A) → i ≤ n → insert_at i a (take n xs) ≡ take (suc n) (insert_at i a xs)
+  insert_take zero n a xs h = refl
+  insert_take (suc i) zero a xs h = absurd (not-suc-le-zero h)
+  insert_take (suc i) (suc n) a [] h = refl
+  insert_take (suc i) (suc n) a (x ∷ xs) h = ap (λ (r : List A). x ∷ r) (insert_take i n a xs (le_of_suc-le-suc h))
 
   -- with room for one more, and with none
-  cut-room : (i n k : ℕ) (a : A) (xs : List A) → i ≤ n → n ≤ length xs → n < k → take k (insert_at i a (take n xs)) ≡ take (n + 1) (insert_at i a xs)
-  cut-room i n k a xs h l r =
+  cut_room : (i n k : ℕ) (a : A) (xs : List A) → i ≤ n → n ≤ length xs → n < k → take k (insert_at i a (take n xs)) ≡ take (n + 1) (insert_at i a xs)
+  cut_room i n k a xs h l r =
       let e = length-take-le n xs l in
-      let m = length-insert i a (take n xs) (omega arith) in
-      take_all k (insert_at i a (take n xs)) (omega arith) ∙ insert-take i n a xs h ∙ ap (λ (j : ℕ). take j (insert_at i a xs)) (sym (add-one n))
+      let m = length_insert i a (take n xs) (omega arith) in
+      take_all k (insert_at i a (take n xs)) (omega arith) ∙ insert_take i n a xs h ∙ ap (λ (j : ℕ). take j (insert_at i a xs)) (sym (add-one n))
 
-  cut-full : (i n : ℕ) (a : A) (xs : List A) → i ≤ n → take n (insert_at i a (take n xs)) ≡ take n (insert_at i a xs)
-  cut-full i n a xs h = ap (λ (r : List A). take n r) (insert-take i n a xs h) ∙ take-take n (suc n) (insert_at i a xs) (omega arith)
+  cut_full : (i n : ℕ) (a : A) (xs : List A) → i ≤ n → take n (insert_at i a (take n xs)) ≡ take n (insert_at i a xs)
+  cut_full i n a xs h = ap (λ (r : List A). take n r) (insert_take i n a xs h) ∙ take-take n (suc n) (insert_at i a xs) (omega arith)
 
 -- ---- the two arrays of a list of entries
 
 module _ {A B : Type 0} (f : A → B) where
-  pub map-take : (n : ℕ) (xs : List A) → map f (take n xs) ≡ take n (map f xs)
-  map-take zero xs = refl
-  map-take (suc n) [] = refl
-  map-take (suc n) (x ∷ xs) = ap (λ (r : List B). f x ∷ r) (map-take n xs)
+  pub map_take : (n : ℕ) (xs : List A) → map f (take n xs) ≡ take n (map f xs)
+  map_take zero xs = refl
+  map_take (suc n) [] = refl
+  map_take (suc n) (x ∷ xs) = ap (λ (r : List B). f x ∷ r) (map_take n xs)
 
-  map-insert : (i : ℕ) (a : A) (xs : List A) → map f (insert_at i a xs) ≡ insert_at i (f a) (map f xs)
-  map-insert zero a xs = refl
-  map-insert (suc i) a [] = refl
-  map-insert (suc i) a (x ∷ xs) = ap (λ (r : List B). f x ∷ r) (map-insert i a xs)
+  map_insert : (i : ℕ) (a : A) (xs : List A) → map f (insert_at i a xs) ≡ insert_at i (f a) (map f xs)
+  map_insert zero a xs = refl
+  map_insert (suc i) a [] = refl
+  map_insert (suc i) a (x ∷ xs) = ap (λ (r : List B). f x ∷ r) (map_insert i a xs)
 
 abbrev pub key_of : Entry → ℕ
 key_of e = e.key
 
-abbrev pub sim-of : Entry → Float
-sim-of e = e.sim
+abbrev pub sim_of : Entry → Float
+sim_of e = e.sim
 
-pub map-key : (n : ℕ) (is : List ℕ) (ss : List Float) → n ≤ length is → n ≤ length ss → map key_of (entries n is ss) ≡ take n is
-map-key zero is ss h k = refl
-map-key (suc n) [] ss h k = absurd (not-suc-le-zero h)
-map-key (suc n) (i ∷ is) [] h k = absurd (not-suc-le-zero k)
-map-key (suc n) (i ∷ is) (s ∷ ss) h k = ap (λ (r : List ℕ). i ∷ r) (map-key n is ss (le_of_suc-le-suc h) (le_of_suc-le-suc k))
+pub map_key : (n : ℕ) (is : List ℕ) (ss : List Float) → n ≤ length is → n ≤ length ss → map key_of (entries n is ss) ≡ take n is
+map_key zero is ss h k = refl
+map_key (suc n) [] ss h k = absurd (not-suc-le-zero h)
+map_key (suc n) (i ∷ is) [] h k = absurd (not-suc-le-zero k)
+map_key (suc n) (i ∷ is) (s ∷ ss) h k = ap (λ (r : List ℕ). i ∷ r) (map_key n is ss (le_of_suc-le-suc h) (le_of_suc-le-suc k))
 
-pub map-sim : (n : ℕ) (is : List ℕ) (ss : List Float) → n ≤ length is → n ≤ length ss → map sim-of (entries n is ss) ≡ take n ss
-map-sim zero is ss h k = refl
-map-sim (suc n) [] ss h k = absurd (not-suc-le-zero h)
-map-sim (suc n) (i ∷ is) [] h k = absurd (not-suc-le-zero k)
-map-sim (suc n) (i ∷ is) (s ∷ ss) h k = ap (λ (r : List Float). s ∷ r) (map-sim n is ss (le_of_suc-le-suc h) (le_of_suc-le-suc k))
+pub map_sim : (n : ℕ) (is : List ℕ) (ss : List Float) → n ≤ length is → n ≤ length ss → map sim_of (entries n is ss) ≡ take n ss
+map_sim zero is ss h k = refl
+map_sim (suc n) [] ss h k = absurd (not-suc-le-zero h)
+map_sim (suc n) (i ∷ is) [] h k = absurd (not-suc-le-zero k)
+map_sim (suc n) (i ∷ is) (s ∷ ss) h k = ap (λ (r : List Float). s ∷ r) (map_sim n is ss (le_of_suc-le-suc h) (le_of_suc-le-suc k))
 
 -- ---- a list laid over the front of an array
 
@@ -87,28 +87,28 @@ module _ {A : Type 0} where
   lays : (xs ys old : List A) (m : ℕ) → xs ≡ ys → length xs ≡ m → over xs old ≡ ys ++ drop m old
   lays xs ys old m e l = λ i. e i ++ drop (l i) old
 
-  lays-same : (xs old : List A) (m : ℕ) → xs ≡ take m old → length xs ≡ m → over xs old ≡ old
-  lays-same xs old m e l = lays xs (take m old) old m e l ∙ take-append-drop m old
+  lays_same : (xs old : List A) (m : ℕ) → xs ≡ take m old → length xs ≡ m → over xs old ≡ old
+  lays_same xs old m e l = lays xs (take m old) old m e l ∙ take-append-drop m old
 
 -- ---- a set with a list in place of what it held
 
 module _ (s : ResultSet) (hi : s.len ≤ length s.ids) (hs : s.len ≤ length s.sims) where
   pub len_is : length (entries_of s) ≡ s.len
   unfolding entries_of
-  len_is = length-entries s.len s.ids s.sims hi hs
+  len_is = length_entries s.len s.ids s.sims hi hs
 
-  pub keys-are : map key_of (entries_of s) ≡ take s.len s.ids
+  pub keys_are : map key_of (entries_of s) ≡ take s.len s.ids
   unfolding entries_of
-  keys-are = map-key s.len s.ids s.sims hi hs
+  keys_are = map_key s.len s.ids s.sims hi hs
 
-  pub sims-are : map sim-of (entries_of s) ≡ take s.len s.sims
+  pub sims_are : map sim_of (entries_of s) ≡ take s.len s.sims
   unfolding entries_of
-  sims-are = map-sim s.len s.ids s.sims hi hs
+  sims_are = map_sim s.len s.ids s.sims hi hs
 
-  pub hold-same : holding s (entries_of s) ≡ s
-  hold-same =
-      let ik = lays-same (map key_of (entries_of s)) s.ids s.len keys-are (length-map (entries_of s) key_of ∙ len_is) in
-      let is = lays-same (map sim-of (entries_of s)) s.sims s.len sims-are (length-map (entries_of s) sim-of ∙ len_is) in
+  pub hold_same : holding s (entries_of s) ≡ s
+  hold_same =
+      let ik = lays_same (map key_of (entries_of s)) s.ids s.len keys_are (length-map (entries_of s) key_of ∙ len_is) in
+      let is = lays_same (map sim_of (entries_of s)) s.sims s.len sims_are (length-map (entries_of s) sim_of ∙ len_is) in
       λ j. record { ids = ik j; sims = is j; len = len_is j; k = s.k; checked = s.checked }
 
   module _ (i : ℕ) (e : Entry) (hp : i ≤ s.len) where
@@ -120,40 +120,40 @@ module _ (s : ResultSet) (hi : s.len ≤ length s.ids) (hs : s.len ≤ length s.
     puts m l pk ps =
         let new = take s.k (insert_at i e (entries_of s)) in
         let ek : map key_of new ≡ take s.k (insert_at i e.key (take s.len s.ids)) =
-        map-take key_of s.k (insert_at i e (entries_of s)) ∙ ap (λ (r : List ℕ). take s.k r) (map-insert key_of i e (entries_of s)
-        ∙ ap (λ (r : List ℕ). insert_at i e.key r) keys-are) in
-        let es : map sim-of new ≡ take s.k (insert_at i e.sim (take s.len s.sims)) =
-        map-take sim-of s.k (insert_at i e (entries_of s)) ∙ ap (λ (r : List Float). take s.k r) (map-insert sim-of i e (entries_of s)
-        ∙ ap (λ (r : List Float). insert_at i e.sim r) sims-are) in
+        map_take key_of s.k (insert_at i e (entries_of s)) ∙ ap (λ (r : List ℕ). take s.k r) (map_insert key_of i e (entries_of s)
+        ∙ ap (λ (r : List ℕ). insert_at i e.key r) keys_are) in
+        let es : map sim_of new ≡ take s.k (insert_at i e.sim (take s.len s.sims)) =
+        map_take sim_of s.k (insert_at i e (entries_of s)) ∙ ap (λ (r : List Float). take s.k r) (map_insert sim_of i e (entries_of s)
+        ∙ ap (λ (r : List Float). insert_at i e.sim r) sims_are) in
         let ik = lays (map key_of new) (take m (insert_at i e.key s.ids)) s.ids m (ek ∙ pk) (length-map new key_of ∙ l) in
-        let is = lays (map sim-of new) (take m (insert_at i e.sim s.sims)) s.sims m (es ∙ ps) (length-map new sim-of ∙ l) in
+        let is = lays (map sim_of new) (take m (insert_at i e.sim s.sims)) s.sims m (es ∙ ps) (length-map new sim_of ∙ l) in
         sym (λ j. record { ids = ik j; sims = is j; len = l j; k = s.k; checked = s.checked })
 
-    pub put-room : s.len < s.k → shifted_to s i (s.len + 1) e ≡ put_in s (insert_at i e (entries_of s))
-    put-room r =
+    pub put_room : s.len < s.k → shifted_to s i (s.len + 1) e ≡ put_in s (insert_at i e (entries_of s))
+    put_room r =
         let n = len_is in
-        let m = length-insert i e (entries_of s) (omega arith) in
+        let m = length_insert i e (entries_of s) (omega arith) in
         let t = take_all s.k (insert_at i e (entries_of s)) (omega arith) in
         puts (s.len + 1) (ap length t ∙ m ∙ ap suc n ∙ sym (add-one s.len))
-        (cut-room i s.len s.k e.key s.ids hp hi r)
-        (cut-room i s.len s.k e.sim s.sims hp hs r)
+        (cut_room i s.len s.k e.key s.ids hp hi r)
+        (cut_room i s.len s.k e.sim s.sims hp hs r)
 
     pub put_full : s.len ≡ s.k → shifted_to s i s.k e ≡ put_in s (insert_at i e (entries_of s))
     put_full r =
         let n = len_is in
-        let m = length-insert i e (entries_of s) (omega arith) in
+        let m = length_insert i e (entries_of s) (omega arith) in
         puts s.k (length-take-le s.k (insert_at i e (entries_of s)) (omega arith))
-        (rw r (cut-full i s.k e.key s.ids (omega arith)))
-        (rw r (cut-full i s.k e.sim s.sims (omega arith)))
+        (rw r (cut_full i s.k e.key s.ids (omega arith)))
+        (rw r (cut_full i s.k e.sim s.sims (omega arith)))
 
     -- full, and the place is past the end: the list is cut to what it was
-    pub put-none : s.len ≡ s.k → i ≡ s.len → s ≡ put_in s (insert_at i e (entries_of s))
-    put-none r p =
+    pub put_none : s.len ≡ s.k → i ≡ s.len → s ≡ put_in s (insert_at i e (entries_of s))
+    put_none r p =
         let n = len_is in
         let c : take s.k (insert_at i e (entries_of s)) ≡ entries_of s =
         take-append-le s.k (take i (entries_of s)) (e ∷ drop i (entries_of s)) (omega (arith, length-take-le i (entries_of s) (omega arith)))
         ∙ take-take s.k i (entries_of s) (omega arith) ∙ take_all s.k (entries_of s) (omega arith) in
-        sym (ap (λ (r : List Entry). holding s r) c ∙ hold-same)
+        sym (ap (λ (r : List Entry). holding s r) c ∙ hold_same)
 
 -- the struct with two new arrays and a new length
 pub shifts : (s : ResultSet) (i n m : ℕ) (e : Entry) (a : List ℕ) (b : List Float) → a ≡ take n (insert_at i e.key s.ids) ++ drop n s.ids

@@ -18,8 +18,8 @@ well_formed s =
 -- a set as the calls hand it out: well formed, with 256 places in each array
 pub record Sound (s : ResultSet) : Type 0 where
   pub formed : well_formed s ≡ true
-  pub ids-long : length s.ids ≡ 256
-  pub sims-long : length s.sims ≡ 256
+  pub ids_long : length s.ids ≡ 256
+  pub sims_long : length s.sims ≡ 256
 
 -- what the set holds, best first
 unfoldable pub entries_of : ResultSet → List Entry

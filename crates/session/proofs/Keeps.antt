@@ -19,7 +19,7 @@ kept_more old new from i l k e q =
     swapped : get_or new (from + i) 0 ≡ get_or old (from + i) 0
     swapped = rw (swap, ← get_or-drop i new from 0, ← get_or-drop i old from 0, q) refl
 
-pub kept-rest : (old new : List ℕ) (i x : ℕ) → drop i new ≡ drop i old → drop (i + 1) (set new i x) ≡ drop (i + 1) old
-kept-rest old new i x q =
+pub kept_rest : (old new : List ℕ) (i x : ℕ) → drop i new ≡ drop i old → drop (i + 1) (set new i x) ≡ drop (i + 1) old
+kept_rest old new i x q =
     let h : i < i + 1 = omega arith in
     drop-set-lt (i + 1) new i x h ∙ sym (drop-drop 1 i new) ∙ ap (λ (t : List ℕ). drop 1 t) q ∙ drop-drop 1 i old

@@ -12,43 +12,43 @@ use Rattle.steps.specs.Steps.{State, step_of}
 use Rattle.session.specs.declared.Frame.{Frame}
 use Rattle.session.specs.declared.Frame.TheVariants.{Whole, Bad, Part}
 use Rattle.session.specs.Runs.{frame_of, record_of, end_text, go, run_to, run}
-use Rattle.session.proofs.Frames.{framed, framed-back, framed-more, bad_more}
+use Rattle.session.proofs.Frames.{framed, framed_back, framed_more, bad_more}
 
 -- ---- a run does not depend on its bound
 
-go-enough : (f : Frame) (j k : ℕ) (s : List ℕ) (st : State) → frame_of s ≡ f → length s < suc j → length s < suc k
+go_enough : (f : Frame) (j k : ℕ) (s : List ℕ) (st : State) → frame_of s ≡ f → length s < suc j → length s < suc k
     → ((t : List ℕ) (u : State) → length t < j → length t < k → run_to j t u ≡ run_to k t u) → go f (run_to j) s st ≡ go f (run_to k) s st
-go-enough Bad j k s st e h i again = refl
-go-enough Part j k s st e h i again = refl
-go-enough (Whole n) j k s st e h i again =
+go_enough Bad j k s st e h i again = refl
+go_enough Part j k s st e h i again = refl
+go_enough (Whole n) j k s st e h i again =
     let f = framed s n e in
     let l : length (drop (4 + n) s) ≡ length s - (4 + n) = length-drop (4 + n) s in
     let o = step_of (record_of n s) st in
     ap (λ (t : List ℕ). o.0 ++ t) (again (drop (4 + n) s) o.1 (omega (arith, f.long, l)) (omega (arith, f.long, l)))
 
-run-enough : (j k : ℕ) (s : List ℕ) (st : State) → length s < j → length s < k → run_to j s st ≡ run_to k s st
+run_enough : (j k : ℕ) (s : List ℕ) (st : State) → length s < j → length s < k → run_to j s st ≡ run_to k s st
 unfolding run_to
-run-enough zero k s st h i = absurd (not-suc-le-zero h)
-run-enough (suc j) zero s st h i = absurd (not-suc-le-zero i)
-run-enough (suc j) (suc k) s st h i = go-enough (frame_of s) j k s st refl h i (λ t u a b. run-enough j k t u a b)
+run_enough zero k s st h i = absurd (not-suc-le-zero h)
+run_enough (suc j) zero s st h i = absurd (not-suc-le-zero i)
+run_enough (suc j) (suc k) s st h i = go_enough (frame_of s) j k s st refl h i (λ t u a b. run_enough j k t u a b)
 
 -- ---- how a run goes on
 
-pub run-whole : (s more : List ℕ) (n : ℕ) (st : State) → frame_of s ≡ Whole n
+pub run_whole : (s more : List ℕ) (n : ℕ) (st : State) → frame_of s ≡ Whole n
     → run (s ++ more) st ≡ (step_of (record_of n s) st).0 ++ run (drop (4 + n) s ++ more) (step_of (record_of n s) st).1
 unfolding run run_to
-run-whole s more n st e =
+run_whole s more n st e =
     let f = framed s n e in
     let l : length (drop (4 + n) s ++ more) ≡ length s - (4 + n) + length more = length-append (drop (4 + n) s) more ∙ ap (λ (k : ℕ). k + length more) (length-drop (4 + n) s) in
     let m : length (s ++ more) ≡ length s + length more = length-append s more in
     let h : 4 + n ≤ length s = f.long in
-    rw (framed-back (s ++ more) n (framed-more s more n f), drop-append-le (4 + n) s more h, drop-append-le 4 s more (omega arith), take-append-le n (drop 4 s) more (simp length-drop (omega arith)))
+    rw (framed_back (s ++ more) n (framed_more s more n f), drop-append-le (4 + n) s more h, drop-append-le 4 s more (omega arith), take-append-le n (drop 4 s) more (simp length-drop (omega arith)))
     (ap (λ (t : List ℕ). (step_of (record_of n s) st).0 ++ t)
-    (run-enough (length (s ++ more)) (suc (length (drop (4 + n) s ++ more))) (drop (4 + n) s ++ more) (step_of (record_of n s) st).1 (omega arith) (omega arith)))
+    (run_enough (length (s ++ more)) (suc (length (drop (4 + n) s ++ more))) (drop (4 + n) s ++ more) (step_of (record_of n s) st).1 (omega arith) (omega arith)))
 
-pub run-bad : (s more : List ℕ) (st : State) → frame_of s ≡ Bad → run (s ++ more) st ≡ told (Says.Refused 15)
+pub run_bad : (s more : List ℕ) (st : State) → frame_of s ≡ Bad → run (s ++ more) st ≡ told (Says.Refused 15)
 unfolding run run_to
-run-bad s more st e = rw (bad_more s more e) refl
+run_bad s more st e = rw (bad_more s more e) refl
 
 pub run_end : (s : List ℕ) (st : State) → frame_of s ≡ Part → run s st ≡ end_text s
 unfolding run run_to

@@ -12,21 +12,21 @@ use borrow.Author.Tests.{le-ltb, ltb-false}
 use Rattle.paper.specs.Choice.{pick}
 use Rattle.lines.specs.Lines.{told}
 use Rattle.lines.specs.declared.Told.TheVariants as Says
-use Rattle.lines.proofs.Texts.{told-short}
+use Rattle.lines.proofs.Texts.{told_short}
 use Rattle.steps.specs.Steps.{State, step_of}
-use Rattle.steps.proofs.Cases.{step-short}
+use Rattle.steps.proofs.Cases.{step_short}
 use Rattle.session.specs.declared.Frame.{Frame}
 use Rattle.session.specs.declared.Frame.TheVariants.{Whole, Bad, Part}
 use Rattle.session.specs.Runs.{frame_of, record_of, run, Far, fed, turn, feed_to, feed_of}
 use Rattle.session.specs.Played.{shown, left, joined, Played, stopped, emptied, refilled, ended}
 use Rattle.session.proofs.Frames.{framed}
-use Rattle.session.proofs.Runs.{run-whole, run-bad, run_end}
+use Rattle.session.proofs.Runs.{run_whole, run_bad, run_end}
 
 impossible : {A : Type 0} → false ≡ true → A
 impossible e = absurd (subst (λ (b : Bool). cond b ⊥ Unit) e tt)
 
-front-set : (old text : List ℕ) (at : ℕ) → at + length text ≤ length old → take (at + length text) (sets old at text) ≡ take at old ++ text
-front-set old text at h =
+front_set : (old text : List ℕ) (at : ℕ) → at + length text ≤ length old → take (at + length text) (sets old at text) ≡ take at old ++ text
+front_set old text at h =
     let l : length (take at old) ≡ at = length-take-le at old (omega arith) in
     rw (sets-eq text old at h) (take_at (take at old ++ text) (drop (at + length text) old) (at + length text) (omega (arith, length-append (take at old) text)))
 
@@ -56,13 +56,13 @@ module _ (s : List ℕ) (i p : ℕ) (st : State) (out : List ℕ) where
       → From s i p st out (fed st i (p + length (told (Says.Refused 15))) true false (sets out p (told (Says.Refused 15))))
   fails e h =
       let t = told (Says.Refused 15) in
-      let l : length t ≤ 64 = told-short (Says.Refused 15) in
+      let l : length t ≤ 64 = told_short (Says.Refused 15) in
       let n : length (sets out p t) ≡ length out = length-sets out p t in
       record {
         low = omega arith;
         high = omega arith;
         put = omega arith;
-        stopped = λ _ more. ap (λ (x : List ℕ). take p out ++ x) (run-bad s more st e) ∙ sym (front-set out t p (omega arith));
+        stopped = λ _ more. ap (λ (x : List ℕ). take p out ++ x) (run_bad s more st e) ∙ sym (front_set out t p (omega arith));
         goes = λ no. impossible (sym no);
         waits = λ no. impossible no;
       }
@@ -73,14 +73,14 @@ module _ (s : List ℕ) (i p : ℕ) (st : State) (out : List ℕ) where
   passes n f e h k =
       let o = step_of (record_of n s) st in
       let long : 4 + n ≤ length s = (framed s n e).long in
-      let short : length o.0 ≤ 5184 = step-short (record_of n s) st in
+      let short : length o.0 ≤ 5184 = step_short (record_of n s) st in
       let d : length (drop (4 + n) s) ≡ length s - (4 + n) = length-drop (4 + n) s in
       let l : i + (4 + n) ≤ f.used = k.low in
       let u : f.used ≤ i + (4 + n) + length (drop (4 + n) s) = k.high in
       let begin : (more : List ℕ) → take p out ++ run (s ++ more) st ≡ take (p + length o.0) (sets out p o.0) ++ run (drop (4 + n) s ++ more) o.1 =
-      λ more. ap (λ (x : List ℕ). take p out ++ x) (run-whole s more n st e)
+      λ more. ap (λ (x : List ℕ). take p out ++ x) (run_whole s more n st e)
       ∙ sym (append_assoc (take p out) o.0 (run (drop (4 + n) s ++ more) o.1))
-      ∙ ap (λ (x : List ℕ). x ++ run (drop (4 + n) s ++ more) o.1) (sym (front-set out o.0 p (omega arith))) in
+      ∙ ap (λ (x : List ℕ). x ++ run (drop (4 + n) s ++ more) o.1) (sym (front_set out o.0 p (omega arith))) in
       let same : drop (f.used - (i + (4 + n))) (drop (4 + n) s) ≡ drop (f.used - i) s = drop-drop (f.used - (i + (4 + n))) (4 + n) s ∙ ap (λ (x : ℕ). drop x s) (gap n f.used l) in
       record {
         low = omega arith;
@@ -94,29 +94,29 @@ module _ (s : List ℕ) (i p : ℕ) (st : State) (out : List ℕ) where
       gap : (n u : ℕ) → i + (4 + n) ≤ u → 4 + n + (u - (i + (4 + n))) ≡ u - i
       gap n u h = omega arith
 
-fed-from : (k : ℕ) (s : List ℕ) (i p : ℕ) (st : State) (out : List ℕ) → length s < k → p ≤ length out → From s i p st out (feed_to k s i p st out)
+fed_from : (k : ℕ) (s : List ℕ) (i p : ℕ) (st : State) (out : List ℕ) → length s < k → p ≤ length out → From s i p st out (feed_to k s i p st out)
 unfolding feed_to
-fed-from zero s i p st out h l = absurd (not-suc-le-zero h)
-fed-from (suc k) s i p st out h l = by-room (ltb (length out - p) 5184) refl (λ t a b u o x y. fed-from k t a b u o x y)
+fed_from zero s i p st out h l = absurd (not-suc-le-zero h)
+fed_from (suc k) s i p st out h l = by_room (ltb (length out - p) 5184) refl (λ t a b u o x y. fed_from k t a b u o x y)
   where
-    by-frame : (f : Frame) → frame_of s ≡ f → p + 5184 ≤ length out
+    by_frame : (f : Frame) → frame_of s ≡ f → p + 5184 ≤ length out
         → ((t : List ℕ) (a b : ℕ) (u : State) (o : List ℕ) → length t < k → b ≤ length o → From t a b u o (feed_to k t a b u o))
         → From s i p st out (turn f (feed_to k) s i p st out)
-    by-frame Part e r again = rests s i p st out true l (λ _. e)
-    by-frame Bad e r again = fails s i p st out e (omega arith)
-    by-frame (Whole n) e r again =
+    by_frame Part e r again = rests s i p st out true l (λ _. e)
+    by_frame Bad e r again = fails s i p st out e (omega arith)
+    by_frame (Whole n) e r again =
         let o = step_of (record_of n s) st in
         let long : 4 + n ≤ length s = (framed s n e).long in
         let d : length (drop (4 + n) s) ≡ length s - (4 + n) = length-drop (4 + n) s in
-        let short : length o.0 ≤ 5184 = step-short (record_of n s) st in
+        let short : length o.0 ≤ 5184 = step_short (record_of n s) st in
         let m : length (sets out p o.0) ≡ length out = length-sets out p o.0 in
         passes s i p st out n _ e r (again (drop (4 + n) s) (i + (4 + n)) (p + length o.0) o.1 (sets out p o.0) (omega arith) (omega arith))
 
-    by-room : (b : Bool) → ltb (length out - p) 5184 ≡ b
+    by_room : (b : Bool) → ltb (length out - p) 5184 ≡ b
         → ((t : List ℕ) (a b : ℕ) (u : State) (o : List ℕ) → length t < k → b ≤ length o → From t a b u o (feed_to k t a b u o))
         → From s i p st out (pick b (fed st i p false false out) (turn (frame_of s) (feed_to k) s i p st out))
-    by-room true e again = rests s i p st out false l (λ no. impossible no)
-    by-room false e again = by-frame (frame_of s) refl (omega (arith, ltb-false (length out - p) 5184 e)) again
+    by_room true e again = rests s i p st out false l (λ no. impossible no)
+    by_room false e again = by_frame (frame_of s) refl (omega (arith, ltb-false (length out - p) 5184 e)) again
 
 -- ---- one call, from the start of its input
 
@@ -128,11 +128,11 @@ pub record Run (input : List ℕ) (st : State) (f : Far) : Type 0 where
   pub goes : f.stops ≡ false → (more : List ℕ) → run (input ++ more) st ≡ shown f ++ run (left f input ++ more) f.state
   pub waits : f.waits ≡ true → frame_of (left f input) ≡ Part
 
-pub fed-run : (input : List ℕ) (st : State) (out : List ℕ) → Run input st (feed_of input st out)
+pub fed_run : (input : List ℕ) (st : State) (out : List ℕ) → Run input st (feed_of input st out)
 unfolding feed_of
-fed-run input st out =
+fed_run input st out =
     let f = feed_to (suc (length input)) input 0 0 st out in
-    let k : From input 0 0 st out f = fed-from (suc (length input)) input 0 0 st out (omega arith) (omega arith) in
+    let k : From input 0 0 st out f = fed_from (suc (length input)) input 0 0 st out (omega arith) (omega arith) in
     let u : f.used ≤ 0 + length input = k.high in
     let z : f.used - 0 ≡ f.used = sub-zero f.used in
     record {
@@ -145,42 +145,42 @@ fed-run input st out =
 
 -- the same of an answer of feed
 pub ran : (input : List ℕ) (st : State) (out : List ℕ) (f : Far) → f ≡ feed_of input st out → Run input st f
-ran input st out f e = subst (λ (x : Far). Run input st x) (sym e) (fed-run input st out)
+ran input st out f e = subst (λ (x : Far). Run input st x) (sym e) (fed_run input st out)
 
 -- ---- a whole run
 
 pub whole : (pending : List ℕ) (st : State) (reads : List (List ℕ)) (text : List ℕ) → Played pending st reads text → text ≡ run (pending ++ joined reads) st
-whole pending st reads text (stopped _ _ _ out e) = sym ((fed-run pending st out).stopped e (joined reads))
+whole pending st reads text (stopped _ _ _ out e) = sym ((fed_run pending st out).stopped e (joined reads))
 whole pending st reads text (emptied _ _ _ out t e w q) =
     let f = feed_of pending st out in
-    ap (λ (x : List ℕ). shown f ++ x) (whole (left f pending) f.state reads t q) ∙ sym ((fed-run pending st out).goes e (joined reads))
+    ap (λ (x : List ℕ). shown f ++ x) (whole (left f pending) f.state reads t q) ∙ sym ((fed_run pending st out).goes e (joined reads))
 whole pending st reads text (refilled _ _ r rs out t e w q) =
     let f = feed_of pending st out in
     ap (λ (x : List ℕ). shown f ++ x) (whole (left f pending ++ r) f.state rs t q ∙ ap (λ (x : List ℕ). run x f.state) (append_assoc (left f pending) r (joined rs)))
-    ∙ sym ((fed-run pending st out).goes e (r ++ joined rs))
+    ∙ sym ((fed_run pending st out).goes e (r ++ joined rs))
 whole pending st reads text (ended _ _ out e w) =
     let f = feed_of pending st out in
-    ap (λ (x : List ℕ). shown f ++ x) (sym (run_end (left f pending) f.state ((fed-run pending st out).waits w)) ∙ ap (λ (x : List ℕ). run x f.state) (sym (append-nil (left f pending))))
-    ∙ sym ((fed-run pending st out).goes e [])
+    ap (λ (x : List ℕ). shown f ++ x) (sym (run_end (left f pending) f.state ((fed_run pending st out).waits w)) ∙ ap (λ (x : List ℕ). run x f.state) (sym (append-nil (left f pending))))
+    ∙ sym ((fed_run pending st out).goes e [])
 
 -- the pieces do not matter
-pub any-cut : (st : State) (reads reads' : List (List ℕ)) (text text' : List ℕ) → joined reads ≡ joined reads' → Played [] st reads text → Played [] st reads' text' → text ≡ text'
-any-cut st reads reads' text text' e p q = whole [] st reads text p ∙ ap (λ (x : List ℕ). run x st) e ∙ sym (whole [] st reads' text' q)
+pub any_cut : (st : State) (reads reads' : List (List ℕ)) (text text' : List ℕ) → joined reads ≡ joined reads' → Played [] st reads text → Played [] st reads' text' → text ≡ text'
+any_cut st reads reads' text text' e p q = whole [] st reads text p ∙ ap (λ (x : List ℕ). run x st) e ∙ sym (whole [] st reads' text' q)
 
 -- ---- a run comes to its end
 
-turn-moves : (f : Frame) (input : List ℕ) (st : State) (out : List ℕ) → frame_of input ≡ f → 5184 ≤ length out
+turn_moves : (f : Frame) (input : List ℕ) (st : State) (out : List ℕ) → frame_of input ≡ f → 5184 ≤ length out
     → (turn f (feed_to (length input)) input 0 0 st out).stops ≡ false → (turn f (feed_to (length input)) input 0 0 st out).waits ≡ false
     → 0 < (turn f (feed_to (length input)) input 0 0 st out).used
-turn-moves Part input st out e h s w = impossible (sym w)
-turn-moves Bad input st out e h s w = impossible (sym s)
-turn-moves (Whole n) input st out e h s w =
+turn_moves Part input st out e h s w = impossible (sym w)
+turn_moves Bad input st out e h s w = impossible (sym s)
+turn_moves (Whole n) input st out e h s w =
     let o = step_of (record_of n input) st in
     let long : 4 + n ≤ length input = (framed input n e).long in
     let d : length (drop (4 + n) input) ≡ length input - (4 + n) = length-drop (4 + n) input in
-    let short : length o.0 ≤ 5184 = step-short (record_of n input) st in
+    let short : length o.0 ≤ 5184 = step_short (record_of n input) st in
     let m : length (sets out 0 o.0) ≡ length out = length-sets out 0 o.0 in
-    let k = fed-from (length input) (drop (4 + n) input) (0 + (4 + n)) (0 + length o.0) o.1 (sets out 0 o.0) (omega arith) (omega arith) in
+    let k = fed_from (length input) (drop (4 + n) input) (0 + (4 + n)) (0 + length o.0) o.1 (sets out 0 o.0) (omega arith) (omega arith) in
     omega (arith, k.low)
 
 -- a call that neither stops nor waits has used something, if its buffer has room for an answer
@@ -190,7 +190,7 @@ unfolding feed_of feed_to
 moves input st out h s w =
     let e : feed_of input st out ≡ turn (frame_of input) (feed_to (length input)) input 0 0 st out = rw (le-ltb (length out - 0) 5184 (omega arith)) refl in
     subst (λ (f : Far). 0 < f.used) (sym e)
-    (turn-moves (frame_of input) input st out refl h (subst (λ (f : Far). f.stops ≡ false) e s) (subst (λ (f : Far). f.waits ≡ false) e w))
+    (turn_moves (frame_of input) input st out refl h (subst (λ (f : Far). f.stops ≡ false) e s) (subst (λ (f : Far). f.waits ≡ false) e w))
 
 -- ---- With a buffer that has room for an answer, every finite input, in whatever pieces, is played to its end.
 
@@ -198,21 +198,21 @@ module _ (pending : List ℕ) (st : State) (out : List ℕ) where
   prints : (reads : List (List ℕ)) (text text' : List ℕ) → text ≡ text' → Played pending st reads text → Played pending st reads text'
   prints reads text text' e p = subst (λ (x : List ℕ). Played pending st reads x) e p
 
-  plays-by : (s w : Bool) (reads : List (List ℕ)) (k : ℕ) → 5184 ≤ length out → (feed_of pending st out).stops ≡ s → (feed_of pending st out).waits ≡ w
+  plays_by : (s w : Bool) (reads : List (List ℕ)) (k : ℕ) → 5184 ≤ length out → (feed_of pending st out).stops ≡ s → (feed_of pending st out).waits ≡ w
       → length pending + length (joined reads) + length reads < suc k
       → ((p : List ℕ) (t : State) (r : List (List ℕ)) → length p + length (joined r) + length r < k → Played p t r (run (p ++ joined r) t))
       → Played pending st reads (run (pending ++ joined reads) st)
-  plays-by true w reads k h es ew m again = prints reads _ _ (sym ((fed-run pending st out).stopped es (joined reads))) (stopped pending st reads out es)
-  plays-by false false reads k h es ew m again =
+  plays_by true w reads k h es ew m again = prints reads _ _ (sym ((fed_run pending st out).stopped es (joined reads))) (stopped pending st reads out es)
+  plays_by false false reads k h es ew m again =
       let f = feed_of pending st out in
       let n : 0 < f.used = moves pending st out h es ew in
       let d : length (left f pending) ≡ length pending - f.used = length-drop f.used pending in
-      let u : f.used ≤ length pending = (fed-run pending st out).used in
-      prints reads _ _ (sym ((fed-run pending st out).goes es (joined reads))) (emptied pending st reads out _ es ew (again (left f pending) f.state reads (omega arith)))
-  plays-by false true [] k h es ew m again =
+      let u : f.used ≤ length pending = (fed_run pending st out).used in
+      prints reads _ _ (sym ((fed_run pending st out).goes es (joined reads))) (emptied pending st reads out _ es ew (again (left f pending) f.state reads (omega arith)))
+  plays_by false true [] k h es ew m again =
       let p = ended pending st out es ew in
       prints [] _ _ (whole pending st [] _ p) p
-  plays-by false true (r ∷ rs) k h es ew m again =
+  plays_by false true (r ∷ rs) k h es ew m again =
       let f = feed_of pending st out in
       let d : length (left f pending) ≡ length pending - f.used = length-drop f.used pending in
       let a : length (left f pending ++ r) ≡ length (left f pending) + length r = length-append (left f pending) r in
@@ -220,11 +220,11 @@ module _ (pending : List ℕ) (st : State) (out : List ℕ) where
       let p = refilled pending st r rs out _ es ew (again (left f pending ++ r) f.state rs (omega arith)) in
       prints (r ∷ rs) _ _ (whole pending st (r ∷ rs) _ p) p
 
-plays-to : (k : ℕ) (pending : List ℕ) (st : State) (reads : List (List ℕ)) (out : List ℕ) → 5184 ≤ length out → length pending + length (joined reads) + length reads < k
+plays_to : (k : ℕ) (pending : List ℕ) (st : State) (reads : List (List ℕ)) (out : List ℕ) → 5184 ≤ length out → length pending + length (joined reads) + length reads < k
     → Played pending st reads (run (pending ++ joined reads) st)
-plays-to zero pending st reads out h l = absurd (not-suc-le-zero l)
-plays-to (suc k) pending st reads out h l =
-    plays-by pending st out (feed_of pending st out).stops (feed_of pending st out).waits reads k h refl refl l (λ p s r m. plays-to k p s r out h m)
+plays_to zero pending st reads out h l = absurd (not-suc-le-zero l)
+plays_to (suc k) pending st reads out h l =
+    plays_by pending st out (feed_of pending st out).stops (feed_of pending st out).waits reads k h refl refl l (λ p s r m. plays_to k p s r out h m)
 
 pub plays : (st : State) (reads : List (List ℕ)) (out : List ℕ) → 5184 ≤ length out → Played [] st reads (run (joined reads) st)
-plays st reads out h = plays-to (suc (length (joined reads) + length reads)) [] st reads out h (omega arith)
+plays st reads out h = plays_to (suc (length (joined reads) + length reads)) [] st reads out h (omega arith)

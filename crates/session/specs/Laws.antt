@@ -13,16 +13,16 @@ pub record Laws : Type 0 where
   -- a program that reads, feeds and writes as Played says prints what a run over the whole input prints
   pub whole : (pending : List ℕ) (st : State) (reads : List (List ℕ)) (text : List ℕ) → Played pending st reads text → text ≡ run (pending ++ joined reads) st
   -- from the start: the program prints `printed` of its input
-  pub whole-run : (reads : List (List ℕ)) (text : List ℕ) → Played [] (held start_of) reads text → text ≡ printed (joined reads)
+  pub whole_run : (reads : List (List ℕ)) (text : List ℕ) → Played [] (held start_of) reads text → text ≡ printed (joined reads)
   -- in a run an unknown kind prints refused 15, never 1, and the run goes on behind it from the same state
-  pub run-unknown : (s : List ℕ) (n : ℕ) (st : State) → Reached st → frame_of s ≡ Whole n → Unknown (u16_at (record_of n s) 0)
+  pub run_unknown : (s : List ℕ) (n : ℕ) (st : State) → Reached st → frame_of s ≡ Whole n → Unknown (u16_at (record_of n s) 0)
       → run s st ≡ told (Says.Refused 15) ++ run (drop (4 + n) s) st
   -- the pieces in which the input comes do not matter
-  pub any-cut : (st : State) (reads reads' : List (List ℕ)) (text text' : List ℕ) → joined reads ≡ joined reads' → Played [] st reads text → Played [] st reads' text' → text ≡ text'
+  pub any_cut : (st : State) (reads reads' : List (List ℕ)) (text text' : List ℕ) → joined reads ≡ joined reads' → Played [] st reads text → Played [] st reads' text' → text ≡ text'
   -- with a buffer that has room for the longest answer, every finite input, in whatever pieces, is played to its end
   pub plays : (st : State) (reads : List (List ℕ)) (out : List ℕ) → 5184 ≤ length out → Played [] st reads (run (joined reads) st)
   -- a call of feed that neither stops nor waits has used something
   pub moves : (input : List ℕ) (st : State) (out : List ℕ) → 5184 ≤ length out → (feed_of input st out).stops ≡ false → (feed_of input st out).waits ≡ false
       → 0 < (feed_of input st out).used
   -- what it leaves when it waits is shorter than the longest record with its length, so that a buffer of 516 bytes has always room to read more
-  pub part-short : (input : List ℕ) (st : State) (out : List ℕ) → (feed_of input st out).waits ≡ true → length input < (feed_of input st out).used + 516
+  pub part_short : (input : List ℕ) (st : State) (out : List ℕ) → (feed_of input st out).waits ≡ true → length input < (feed_of input st out).used + 516

@@ -17,22 +17,22 @@ no_nan nan e = absurd (subst T (sym nan_differs ∙ e) tt)
 no_nan (inf s) e = tt
 no_nan (fin s m k) e = tt
 
-is-nan : (x : Float) → is_nan x ≡ true → x ≡ nan
+is_nan_lem : (x : Float) → is_nan x ≡ true → x ≡ nan
 unfolding is_nan
-is-nan nan e = refl
-is-nan (inf s) e = absurd (subst T (sym e) tt)
-is-nan (fin s m k) e = absurd (subst T (sym e) tt)
+is_nan_lem nan e = refl
+is_nan_lem (inf s) e = absurd (subst T (sym e) tt)
+is_nan_lem (fin s m k) e = absurd (subst T (sym e) tt)
 
-pub nan-bits : to_bits binary32 nan ≡ 2143289344
+pub nan_bits_lem : to_bits binary32 nan ≡ 2143289344
 unfolding to_bits
-nan-bits = refl
+nan_bits_lem = refl
 
 pub zero_by_zero : div binary32 (of_bits binary32 0) (of_bits binary32 0) ≡ nan
 unfolding div of_bits of_fields odd
 zero_by_zero = refl
 
-pub reads-nan : (n : ℕ) → 2139095040 < n % 2147483648 → of_bits binary32 n ≡ nan
-reads-nan n h = is-nan (of_bits binary32 n) (sym (nan_bits_is binary32 n) ∙ nan_bits_above binary32 n ∙ lt-ltb 2139095040 (n % 2147483648) h)
+pub reads_nan : (n : ℕ) → 2139095040 < n % 2147483648 → of_bits binary32 n ≡ nan
+reads_nan n h = is_nan_lem (of_bits binary32 n) (sym (nan_bits_is binary32 n) ∙ nan_bits_above binary32 n ∙ lt-ltb 2139095040 (n % 2147483648) h)
 
-pub reads-number : (n : ℕ) → n % 2147483648 ≤ 2139095040 → T (not (nan_bits binary32 n))
-reads-number n h = subst (λ (b : Bool). T (not b)) (sym (nan_bits_above binary32 n ∙ le-ltb 2139095040 (n % 2147483648) h)) tt
+pub reads_number : (n : ℕ) → n % 2147483648 ≤ 2139095040 → T (not (nan_bits binary32 n))
+reads_number n h = subst (λ (b : Bool). T (not b)) (sym (nan_bits_above binary32 n ∙ le-ltb 2139095040 (n % 2147483648) h)) tt

@@ -10,32 +10,32 @@ use lib.Ieee.{Float, nan, inf, binary32, fits, of_bits, to_bits}
 use lib.Ieee.Bits.{of_bits-fits, to_bits-lt, to_bits-of_bits, nan_bits_is}
 use Rattle.sqrt.specs.Root.{Sqrt}
 use Rattle.sqrt.specs.RootOf.{root_of, root}
-use Rattle.sqrt.proofs.Function.{root-of}
-use Rattle.sqrt.proofs.Bits.{nan-bits, reads-nan, reads-number}
+use Rattle.sqrt.proofs.Function.{root_of_is}
+use Rattle.sqrt.proofs.Bits.{nan_bits_lem, reads_nan, reads_number}
 
 -- it is a float of binary32
-pub root-fits : (x : Float) → T (fits binary32 (root x))
+pub root_fits : (x : Float) → T (fits binary32 (root x))
 unfolding root
-root-fits x = of_bits-fits binary32 (root_of (to_bits binary32 x))
+root_fits x = of_bits-fits binary32 (root_of (to_bits binary32 x))
 
-pub root-zero : root (of_bits binary32 0) ≡ of_bits binary32 0
+pub root_zero : root (of_bits binary32 0) ≡ of_bits binary32 0
 unfolding root root_of to_bits of_bits
-root-zero = refl
+root_zero = refl
 
-pub root-infinity : root (inf false) ≡ inf false
+pub root_infinity : root (inf false) ≡ inf false
 unfolding root root_of to_bits of_bits
-root-infinity = refl
+root_infinity = refl
 
-pub root-nan : root nan ≡ nan
+pub root_nan : root nan ≡ nan
 unfolding root root_of to_bits of_bits
-root-nan = refl
+root_nan = refl
 
 -- a root's pattern is a number's, or the one NaN
-pub root-class : (b : ℕ) → b < 4294967296 → ((root_of b < 4294967296) × (root_of b % 2147483648 ≤ 2139095040)) ⊎ (root_of b ≡ 2143289344)
-root-class b h = go (dec_lt (b % 2147483648) 1) (dec_lt b 2139095040) (dec_le b 2139095040) (dec_lt b 2147483648)
+pub root_class : (b : ℕ) → b < 4294967296 → ((root_of b < 4294967296) × (root_of b % 2147483648 ≤ 2139095040)) ⊎ (root_of b ≡ 2143289344)
+root_class b h = go (dec_lt (b % 2147483648) 1) (dec_lt b 2139095040) (dec_le b 2139095040) (dec_lt b 2147483648)
   where
     s : Sqrt b (root_of b)
-    s = root-of b h
+    s = root_of_is b h
 
     go : Dec (b % 2147483648 < 1) → Dec (b < 2139095040) → Dec (b ≤ 2139095040) → Dec (b < 2147483648)
         → ((root_of b < 4294967296) × (root_of b % 2147483648 ≤ 2139095040)) ⊎ (root_of b ≡ 2143289344)
@@ -46,12 +46,12 @@ root-class b h = go (dec_lt (b % 2147483648) 1) (dec_lt b 2139095040) (dec_le b 
     go (no z) (no l) (no m) (no n) = inr (s.negatives (omega arith))
 
 -- its bits are the root of the bits
-pub root-bits : (x : Float) → T (fits binary32 x) → to_bits binary32 (root x) ≡ root_of (to_bits binary32 x)
+pub root_bits : (x : Float) → T (fits binary32 x) → to_bits binary32 (root x) ≡ root_of (to_bits binary32 x)
 unfolding root
-root-bits x f =
+root_bits x f =
     ⊎_elim
     (λ (c : (root_of (to_bits binary32 x) < 4294967296) × (root_of (to_bits binary32 x) % 2147483648 ≤ 2139095040)).
-    to_bits-of_bits binary32 (root_of (to_bits binary32 x)) c.0 (subst (λ (b : Bool). T (not b)) (nan_bits_is binary32 (root_of (to_bits binary32 x))) (reads-number (root_of (to_bits binary32 x)) c.1)))
+    to_bits-of_bits binary32 (root_of (to_bits binary32 x)) c.0 (subst (λ (b : Bool). T (not b)) (nan_bits_is binary32 (root_of (to_bits binary32 x))) (reads_number (root_of (to_bits binary32 x)) c.1)))
     (λ (e : root_of (to_bits binary32 x) ≡ 2143289344).
-    ap (to_bits binary32) (ap (of_bits binary32) e ∙ reads-nan 2143289344 (omega arith)) ∙ nan-bits ∙ sym e)
-    (root-class (to_bits binary32 x) (to_bits-lt binary32 x f))
+    ap (to_bits binary32) (ap (of_bits binary32) e ∙ reads_nan 2143289344 (omega arith)) ∙ nan_bits_lem ∙ sym e)
+    (root_class (to_bits binary32 x) (to_bits-lt binary32 x f))

@@ -26,5 +26,5 @@ pub record IsRoot (x r : Float) : Type 0 where
   pub nearest : (n : ℕ) → 0 < n → Sized x false n → NearestRoot n r
   pub infinity : x ≡ inf false → r ≡ x
   pub negatives : (n : ℕ) → 0 < n → Sized x true n → r ≡ nan
-  pub below-all : x ≡ inf true → r ≡ nan
+  pub below_all : x ≡ inf true → r ≡ nan
   pub nans : x ≡ nan → r ≡ nan

@@ -1,5 +1,5 @@
 -- The square root of a binary32 pattern as a function that computes, for the definitions of other crates to cite.
--- That it is the root of specs/Root.antt, and the only one, are the laws `root-of` and `sqrt-is` of specs/Laws.antt.
+-- That it is the root of specs/Root.antt, and the only one, are the laws `root_of_is` and `sqrt_is` of specs/Laws.antt.
 use Rattle.std.specs.Prelude.{ℕ, zero, suc, ◌+◌, ◌-◌, ◌*◌, ◌/◌, ◌%◌, ◌^◌, cond, leb, ltb, eqb, Float}
 use Rattle.std.specs.Int.Count.{count_leading_zeros}
 use Rattle.std.specs.Float.{binary32}
@@ -29,7 +29,7 @@ root_of b =
     (cond (eqb b 0x7f80_0000) b
     (cond (ltb b 0x7f80_0000) (root_fields (b / 8388608) (b % 8388608)) 0x7fc0_0000))
 
--- the root of a float, by its pattern: `IsRoot` of specs/FloatRoot.antt says what it is as a float (law `root-nearest`)
+-- the root of a float, by its pattern: `IsRoot` of specs/FloatRoot.antt says what it is as a float (law `root_nearest`)
 unfoldable pub root : Float → Float
 unfolding root_of
 root x = of_bits binary32 (root_of (to_bits binary32 x))

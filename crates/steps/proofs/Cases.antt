@@ -17,34 +17,34 @@ use Rattle.records.specs.Fields.{floats_at}
 use Rattle.records.specs.declared.Session.{Session}
 use Rattle.records.specs.declared.Request.{Request}
 use Rattle.records.specs.declared.Request.TheVariants as Asks
-use Rattle.records.proofs.Floats.{floats-length}
+use Rattle.records.proofs.Floats.{floats_length}
 use Rattle.lines.specs.Lines.{Put, told, listing}
 use Rattle.lines.specs.declared.Told.TheVariants as Says
-use Rattle.lines.proofs.Texts.{told-short, listing-length}
+use Rattle.lines.proofs.Texts.{told_short, listing_length}
 use Rattle.index_memory.specs.Memory.{Ix, ix_of}
 use Rattle.adding.specs.Adding.{added, add_of}
 use Rattle.vector_store.specs.Search.{Work, works, Searched, searched, search_of}
 use Rattle.vector_store.specs.declared.Nearest.{Nearest}
-use Rattle.vector_store.proofs.Answers.{search-sound}
+use Rattle.vector_store.proofs.Answers.{search_sound}
 use Rattle.result.specs.Sets.{well_formed}
 use Rattle.result.specs.declared.ResultSet.{ResultSet}
 use Rattle.result.proofs.Keeps.{Sound}
 use Rattle.steps.specs.Memory.{Mem, memory_of, geo_of, zero_f, added_by, added_of, found_by, found_of}
 use Rattle.steps.specs.Steps.{State, state_of, found_text, closed, perform, step_of, Stepped}
-use Rattle.steps.proofs.Room.{taken, front_same, part-set, few_words, few-layers}
+use Rattle.steps.proofs.Room.{taken, front_same, part_set, few_words, few_layers}
 
 -- ---- a search lists at most 256
 
-sound-few : (s : ResultSet) → Sound s → s.len ≤ 256
+sound_few : (s : ResultSet) → Sound s → s.len ≤ 256
 unfolding well_formed
-sound-few s h =
+sound_few s h =
     let e = h.formed in
     let k : s.k ≤ 256 = leb-true s.k 256 (and_l (leb s.k 256) _ e) in
     let l : s.len ≤ s.k = leb-true s.len s.k (and_l (leb s.len s.k) _ (and_r (leb s.k 256) _ e)) in
     omega arith
 
-listed-few : (g : Geo) (bs : List Float) (ix : Ix) (t : List Float) (k wanted spill : ℕ) (m : Work) → (search_of g bs ix t k wanted spill m).answer.set.len ≤ 256
-listed-few g bs ix t k wanted spill m = sound-few _ (search-sound g bs ix t k wanted spill m)
+listed_few : (g : Geo) (bs : List Float) (ix : Ix) (t : List Float) (k wanted spill : ℕ) (m : Work) → (search_of g bs ix t k wanted spill m).answer.set.len ≤ 256
+listed_few g bs ix t k wanted spill m = sound_few _ (search_sound g bs ix t k wanted spill m)
 
 -- ---- an addition and a search on the front of the memory
 
@@ -56,14 +56,14 @@ module _ (g : Session) (m : Mem) (nb nf nm nv : ℕ) (eb : nb ≡ bases_len g.d 
   unfolding added_by
   add_is v work id r f' m' v' w' e = rw (← eb, ← ef, ← em, ← ev, ← e) refl
 
-  pub find-is : (v work : List Float) (layers set : List ℕ) (k wanted spill : ℕ) (f : Nearest) (after : Work)
+  pub find_is : (v work : List Float) (layers set : List ℕ) (k wanted spill : ℕ) (f : Nearest) (after : Work)
       → searched f after ≡ search_of (geo_of g) (take nb m.bases) (ix_of (take nf m.ix.faces) (take nm m.ix.marks) (take nv m.ix.vecs)) v k wanted spill (works work layers set)
       → (f ≡ found_by v work layers set g k wanted spill m) × (f.set.len ≤ 256)
   unfolding found_by
-  find-is v work layers set k wanted spill f after e = (
+  find_is v work layers set k wanted spill f after e = (
     ap (λ (x : Searched). x.answer) e ∙ rw (eb, ef, em, ev) refl,
     subst (λ (x : Searched). x.answer.set.len ≤ 256) (sym e)
-        (listed-few (geo_of g) (take nb m.bases) (ix_of (take nf m.ix.faces) (take nm m.ix.marks) (take nv m.ix.vecs)) v k wanted spill (works work layers set)),
+        (listed_few (geo_of g) (take nb m.bases) (ix_of (take nf m.ix.faces) (take nm m.ix.marks) (take nv m.ix.vecs)) v k wanted spill (works work layers set)),
   )
 
 -- a search over memory of its own that is all zeros
@@ -72,29 +72,29 @@ pub found_as : (s : List ℕ) (g : Session) (k wanted spill : ℕ) (m : Mem) (v 
     → f ≡ found_of s g k wanted spill m
 unfolding found_of
 found_as s g k wanted spill m v f l e q =
-    q ∙ rw (e, front_same g.d 8 zero_f l.d, front_same {A = ℕ} (g.n * set_words g.cap) 16 0 (few-layers g.n g.cap l.n l.cap), front_same {A = ℕ} (set_words g.cap) 4 0 (few_words g.cap l.cap)) refl
+    q ∙ rw (e, front_same g.d 8 zero_f l.d, front_same {A = ℕ} (g.n * set_words g.cap) 16 0 (few_layers g.n g.cap l.n l.cap), front_same {A = ℕ} (set_words g.cap) 4 0 (few_words g.cap l.cap)) refl
 
 -- ---- how long an answer is
 
-pub found-short : (f : Nearest) → f.set.len ≤ 256 → length (found_text f) ≤ 5184
+pub found_short : (f : Nearest) → f.set.len ≤ 256 → length (found_text f) ≤ 5184
 unfolding found_text
-found-short f h = go (eqb f.refusal 0)
+found_short f h = go (eqb f.refusal 0)
   where
     go : (b : Bool) → length (pick b (told (Says.Found f.set.len f.set.checked) ++ listing f.set.len f.set.ids f.set.sims) (told (Says.Refused f.refusal))) ≤ 5184
-    go true = simp length-append (omega (arith, told-short (Says.Found f.set.len f.set.checked), listing-length f.set.len f.set.ids f.set.sims))
-    go false = omega (arith, told-short (Says.Refused f.refusal))
+    go true = simp length-append (omega (arith, told_short (Says.Found f.set.len f.set.checked), listing_length f.set.len f.set.ids f.set.sims))
+    go false = omega (arith, told_short (Says.Refused f.refusal))
 
-pub text-found : (f : Nearest) → f.refusal ≡ 0 → told (Says.Found f.set.len f.set.checked) ++ listing f.set.len f.set.ids f.set.sims ≡ found_text f
+pub text_found : (f : Nearest) → f.refusal ≡ 0 → told (Says.Found f.set.len f.set.checked) ++ listing f.set.len f.set.ids f.set.sims ≡ found_text f
 unfolding found_text
-text-found f e = rw (eq-eqb f.refusal 0 e) refl
+text_found f e = rw (eq-eqb f.refusal 0 e) refl
 
-pub text-refused : (f : Nearest) → (f.refusal ≡ 0 → ⊥) → told (Says.Refused f.refusal) ≡ found_text f
+pub text_refused : (f : Nearest) → (f.refusal ≡ 0 → ⊥) → told (Says.Refused f.refusal) ≡ found_text f
 unfolding found_text
-text-refused f e = rw (ne_eqb f.refusal 0 e) refl
+text_refused f e = rw (ne_eqb f.refusal 0 e) refl
 
-found-few : (s : List ℕ) (g : Session) (k wanted spill : ℕ) (m : Mem) → length (found_text (found_of s g k wanted spill m)) ≤ 5184
+found_few : (s : List ℕ) (g : Session) (k wanted spill : ℕ) (m : Mem) → length (found_text (found_of s g k wanted spill m)) ≤ 5184
 unfolding found_of found_by
-found-few s g k wanted spill m = found-short _ (listed-few _ _ _ _ k wanted spill _)
+found_few s g k wanted spill m = found_short _ (listed_few _ _ _ _ k wanted spill _)
 
 -- ---- a record
 
@@ -110,52 +110,52 @@ module _ (s : List ℕ) (st : State) (old new : List ℕ) (at r : ℕ) where
       }
 
 -- a record prints at most 5184 bytes: a line, and 256 entries of 20
-perform-short : (q : Request) (s : List ℕ) (st : State) → length (perform q s st).0 ≤ 5184
-perform-short (Asks.Refuse num) s st = omega (arith, told-short (Says.Refused num))
-perform-short (Asks.Geometry d n cap mode) s st = omega (arith, told-short (Says.Geometry d n cap mode))
-perform-short (Asks.Basis b) s st = omega (arith, told-short (Says.Basis b))
-perform-short (Asks.Add id) s st = go (added_of s st.session id st.memory) (eqb (added_of s st.session id st.memory).0 0)
+perform_short : (q : Request) (s : List ℕ) (st : State) → length (perform q s st).0 ≤ 5184
+perform_short (Asks.Refuse num) s st = omega (arith, told_short (Says.Refused num))
+perform_short (Asks.Geometry d n cap mode) s st = omega (arith, told_short (Says.Geometry d n cap mode))
+perform_short (Asks.Basis b) s st = omega (arith, told_short (Says.Basis b))
+perform_short (Asks.Add id) s st = go (added_of s st.session id st.memory) (eqb (added_of s st.session id st.memory).0 0)
   where
     go : (a : ℕ × Mem) (b : Bool) → length (pick {A = List ℕ × State} b (told (Says.Added id), state_of (closed st.session) a.1) (told (Says.Refused a.0), state_of st.session a.1)).0 ≤ 5184
-    go a true = omega (arith, told-short (Says.Added id))
-    go a false = omega (arith, told-short (Says.Refused a.0))
-perform-short (Asks.Search k wanted spill) s st = found-few s st.session k wanted spill st.memory
+    go a true = omega (arith, told_short (Says.Added id))
+    go a false = omega (arith, told_short (Says.Refused a.0))
+perform_short (Asks.Search k wanted spill) s st = found_few s st.session k wanted spill st.memory
 
-pub step-short : (s : List ℕ) (st : State) → length (step_of s st).0 ≤ 5184
+pub step_short : (s : List ℕ) (st : State) → length (step_of s st).0 ≤ 5184
 unfolding step_of
-step-short s st = perform-short (request_of s st.session) s st
+step_short s st = perform_short (request_of s st.session) s st
 
 pub added_is : (s : List ℕ) (g : Session) (id r : ℕ) (m m' : Mem) → added_of s g id m ≡ (r, m') → r ≡ 0
     → perform (Asks.Add id) s (state_of g m) ≡ (told (Says.Added id), state_of (closed g) m')
 added_is s g id r m m' e z = rw (e, z) refl
 
-pub added-not : (s : List ℕ) (g : Session) (id r : ℕ) (m m' : Mem) → added_of s g id m ≡ (r, m') → (r ≡ 0 → ⊥)
+pub added_not : (s : List ℕ) (g : Session) (id r : ℕ) (m m' : Mem) → added_of s g id m ≡ (r, m') → (r ≡ 0 → ⊥)
     → perform (Asks.Add id) s (state_of g m) ≡ (told (Says.Refused r), state_of g m')
-added-not s g id r m m' e z = rw (e, ne_eqb r 0 z) refl
+added_not s g id r m m' e z = rw (e, ne_eqb r 0 z) refl
 
-pub based-is : (s : List ℕ) (g : Session) (b : ℕ) (m : Mem) (bs : List Float) → bs ≡ sets m.bases (b * (g.d * g.d)) (floats_at (g.d * g.d) s 4)
+pub based_is : (s : List ℕ) (g : Session) (b : ℕ) (m : Mem) (bs : List Float) → bs ≡ sets m.bases (b * (g.d * g.d)) (floats_at (g.d * g.d) s 4)
     → perform (Asks.Basis b) s (state_of g m) ≡ (told (Says.Basis b), state_of g (memory_of bs m.ix.faces m.ix.marks m.ix.vecs))
-based-is s g b m bs e = rw (← e) refl
+based_is s g b m bs e = rw (← e) refl
 
 -- ---- the places of a record's floats
 
-pub basis-part : (xs : List Float) (a dd : ℕ) → a + dd ≤ length xs → length (take (a + dd - a) (drop a xs)) ≡ dd
-basis-part xs a dd h = simp (length-take, length-drop) (omega arith)
+pub basis_part : (xs : List Float) (a dd : ℕ) → a + dd ≤ length xs → length (take (a + dd - a) (drop a xs)) ≡ dd
+basis_part xs a dd h = simp (length-take, length-drop) (omega arith)
 
-pub basis-is : (xs : List Float) (a dd : ℕ) (s : List ℕ) (ys : List Float) → a + dd ≤ length xs → ys ≡ floats_at (length (take (a + dd - a) (drop a xs))) s 4
+pub basis_is : (xs : List Float) (a dd : ℕ) (s : List ℕ) (ys : List Float) → a + dd ≤ length xs → ys ≡ floats_at (length (take (a + dd - a) (drop a xs))) s 4
     → take a xs ++ (ys ++ drop (a + dd - a) (drop a xs)) ≡ sets xs a (floats_at dd s 4)
-basis-is xs a dd s ys h e =
-    let q : ys ≡ floats_at dd s 4 = e ∙ ap (λ (k : ℕ). floats_at k s 4) (basis-part xs a dd h) in
-    let l : length (floats_at dd s 4) ≡ a + dd - a = floats-length dd s 4 ∙ gap in
-    rw q (part-set xs a (a + dd) (floats_at dd s 4) (omega arith) h l)
+basis_is xs a dd s ys h e =
+    let q : ys ≡ floats_at dd s 4 = e ∙ ap (λ (k : ℕ). floats_at k s 4) (basis_part xs a dd h) in
+    let l : length (floats_at dd s 4) ≡ a + dd - a = floats_length dd s 4 ∙ gap in
+    rw q (part_set xs a (a + dd) (floats_at dd s 4) (omega arith) h l)
   where
     gap : dd ≡ a + dd - a
     gap = omega arith
 
-pub vector-is : (d from : ℕ) (s : List ℕ) (ys : List Float) → d ≤ 8 → ys ≡ floats_at (length (take d (replicate 8 zero_f))) s from
+pub vector_is : (d from : ℕ) (s : List ℕ) (ys : List Float) → d ≤ 8 → ys ≡ floats_at (length (take d (replicate 8 zero_f))) s from
     → (8 ≡ length (ys ++ drop d (replicate 8 zero_f))) × (take d (ys ++ drop d (replicate 8 zero_f)) ≡ floats_at d s from)
-vector-is d from s ys h e =
+vector_is d from s ys h e =
     let q : ys ≡ floats_at d s from = e ∙ ap (λ (k : ℕ). floats_at k s from) (sym (taken d 8 zero_f h)) in
-    let l : length (floats_at d s from) ≡ d = floats-length d s from in
+    let l : length (floats_at d s from) ≡ d = floats_length d s from in
     let n : length (drop d (replicate 8 zero_f)) ≡ 8 - d = length-drop d (replicate 8 zero_f) in
     (rw q (omega (arith, length-append (floats_at d s from) (drop d (replicate 8 zero_f)))), rw q (take_at (floats_at d s from) (drop d (replicate 8 zero_f)) d l))

@@ -7,28 +7,28 @@ use native.Mathlib.Omega.{arith}
 use lib.ListN.{length, take, drop, replicate, length-take, length-replicate}
 use lib.Seq.{sets, sets-eq, drop-drop}
 use Rattle.paper.specs.Geometry.{set_words, bases_len, face_words, vector_bytes}
-use Rattle.paper.proofs.Geometry.{comp-le}
+use Rattle.paper.proofs.Geometry.{comp_le}
 use Rattle.records.proofs.Requests.{square}
 
-pub few-bases : (n d : ℕ) → n ≤ 4 → d ≤ 8 → bases_len d n ≤ 256
-few-bases n d hn hd = mul-le-mul hn (square d hd)
+pub few_bases : (n d : ℕ) → n ≤ 4 → d ≤ 8 → bases_len d n ≤ 256
+few_bases n d hn hd = mul-le-mul hn (square d hd)
 
 pub few_words : (c : ℕ) → c ≤ 256 → set_words c ≤ 4
 few_words c h = omega arith
 
-pub few-faces : (n d c : ℕ) → n ≤ 4 → d ≤ 8 → c ≤ 256 → face_words d n c ≤ 256
-few-faces n d c hn hd hc =
+pub few_faces : (n d c : ℕ) → n ≤ 4 → d ≤ 8 → c ≤ 256 → face_words d n c ≤ 256
+few_faces n d c hn hd hc =
     let h : 2 * d ≤ 16 = omega arith in
     mul-le-mul (mul-le-mul hn h) (few_words c hc)
 
-pub few-vectors : (c m d : ℕ) → c ≤ 256 → d ≤ 8 → vector_bytes d c m ≤ 8192
-few-vectors c m d hc hd = mul-le-mul hc (mul-le-mul (comp-le m) hd)
+pub few_vectors : (c m d : ℕ) → c ≤ 256 → d ≤ 8 → vector_bytes d c m ≤ 8192
+few_vectors c m d hc hd = mul-le-mul hc (mul-le-mul (comp_le m) hd)
 
-pub few-layers : (n c : ℕ) → n ≤ 4 → c ≤ 256 → n * set_words c ≤ 16
-few-layers n c h k = mul-le-mul h (few_words c k)
+pub few_layers : (n c : ℕ) → n ≤ 4 → c ≤ 256 → n * set_words c ≤ 16
+few_layers n c h k = mul-le-mul h (few_words c k)
 
-pub basis-room : (b n d : ℕ) → b < n → n ≤ 4 → d ≤ 8 → b * (d * d) + d * d ≤ 256
-basis-room b n d h k l =
+pub basis_room : (b n d : ℕ) → b < n → n ≤ 4 → d ≤ 8 → b * (d * d) + d * d ≤ 256
+basis_room b n d h k l =
     let k1 : b + 1 ≤ 4 = omega arith in
     let p : (b + 1) * (d * d) ≤ 256 = mul-le-mul k1 (square d l) in
     omega arith
@@ -44,8 +44,8 @@ module _ {A : Type 0} where
   front_same (suc n) zero x h = let no : ⊥ = omega arith in absurd no
   front_same (suc n) (suc m) x h = ap (λ (t : List A). x ∷ t) (front_same n m x (omega arith))
 
-  pub part-set : (xs : List A) (a e : ℕ) (ys : List A) → a ≤ e → e ≤ length xs → length ys ≡ e - a → take a xs ++ (ys ++ drop (e - a) (drop a xs)) ≡ sets xs a ys
-  part-set xs a e ys h k l =
+  pub part_set : (xs : List A) (a e : ℕ) (ys : List A) → a ≤ e → e ≤ length xs → length ys ≡ e - a → take a xs ++ (ys ++ drop (e - a) (drop a xs)) ≡ sets xs a ys
+  part_set xs a e ys h k l =
       let q : a + length ys ≡ a + (e - a) = omega arith in
       sym (append_assoc (take a xs) ys (drop (e - a) (drop a xs))) ∙ ap (λ (t : List A). take a xs ++ ys ++ t) (drop-drop (e - a) a xs)
       ∙ sym (sets-eq ys xs a (omega arith) ∙ ap (λ (t : ℕ). take a xs ++ ys ++ drop t xs) q)

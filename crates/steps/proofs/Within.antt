@@ -10,7 +10,7 @@ use Rattle.paper.specs.Geometry.{geo_ok, cap_ok, mode_ok}
 use Rattle.paper.proofs.Choice.{and_l, and_r}
 use Rattle.records.specs.Fields.{u16_at}
 use Rattle.records.specs.Requests.{Fits, within_limits, geometry_fits, request_of}
-use Rattle.records.proofs.Requests.{request-fits, of-kind, unknown}
+use Rattle.records.proofs.Requests.{request_fits, of_kind, unknown}
 use Rattle.records.specs.declared.Session.{Session}
 use Rattle.records.specs.declared.Request.{Request}
 use Rattle.records.specs.declared.Request.TheVariants.{Refuse, Geometry, Basis, Add, Search}
@@ -20,48 +20,48 @@ use Rattle.steps.specs.Memory.{Mem, added_of}
 use Rattle.steps.specs.Steps.{State, state_of, held, start_of, session_of, closed, perform, step_of}
 use Rattle.steps.specs.Laws.{Reached, first, behind, Unknown}
 
-start-within : within_limits (held start_of).session ≡ true
+start_within : within_limits (held start_of).session ≡ true
 unfolding within_limits start_of
-start-within = refl
+start_within = refl
 
-geo-mode : (d n cap mode : ℕ) → geo_ok d n cap mode ≡ true → leb mode 1 ≡ true
+geo_mode : (d n cap mode : ℕ) → geo_ok d n cap mode ≡ true → leb mode 1 ≡ true
 unfolding geo_ok mode_ok
-geo-mode d n cap mode e =
+geo_mode d n cap mode e =
     and_r (cap_ok cap) _ (and_r (leb n 32) _ (and_r (leb 1 n) _ (and_r (leb d 1024) _ (and_r (leb 1 d) _ e))))
 
 -- a geometry that was taken
-geometry-within : (stage d n cap mode : ℕ) → geometry_fits d n cap mode ≡ true → within_limits (session_of stage d n cap mode) ≡ true
+geometry_within : (stage d n cap mode : ℕ) → geometry_fits d n cap mode ≡ true → within_limits (session_of stage d n cap mode) ≡ true
 unfolding geometry_fits within_limits
-geometry-within stage d n cap mode e =
+geometry_within stage d n cap mode e =
     let lim = and_r (geo_ok d n cap mode) _ e in
-    let known = geo-mode d n cap mode (and_l (geo_ok d n cap mode) _ e) in
+    let known = geo_mode d n cap mode (and_l (geo_ok d n cap mode) _ e) in
     rw (and_l (leb d 8) _ lim, and_l (leb n 4) _ (and_r (leb d 8) _ lim), and_r (leb n 4) _ (and_r (leb d 8) _ lim), known) refl
 
-closed-within : (g : Session) → within_limits (closed g) ≡ within_limits g
+closed_within : (g : Session) → within_limits (closed g) ≡ within_limits g
 unfolding within_limits
-closed-within g = refl
+closed_within g = refl
 
 -- the session behind a request: a new geometry, or the same four numbers
-performed-within : (q : Request) (s : List ℕ) (st : State) → Fits q s st.session → within_limits st.session ≡ true → within_limits (perform q s st).1.session ≡ true
-performed-within (Refuse num) s st f w = w
-performed-within (Geometry d n cap mode) s st f w = geometry-within 1 d n cap mode f
-performed-within (Basis b) s st f w = w
-performed-within (Add id) s st f w = go (added_of s st.session id st.memory) (eqb (added_of s st.session id st.memory).0 0)
+performed_within : (q : Request) (s : List ℕ) (st : State) → Fits q s st.session → within_limits st.session ≡ true → within_limits (perform q s st).1.session ≡ true
+performed_within (Refuse num) s st f w = w
+performed_within (Geometry d n cap mode) s st f w = geometry_within 1 d n cap mode f
+performed_within (Basis b) s st f w = w
+performed_within (Add id) s st f w = go (added_of s st.session id st.memory) (eqb (added_of s st.session id st.memory).0 0)
   where
     go : (a : ℕ × Mem) (b : Bool)
         → within_limits (pick {A = List ℕ × State} b (told (Says.Added id), state_of (closed st.session) a.1) (told (Says.Refused a.0), state_of st.session a.1)).1.session ≡ true
-    go a true = closed-within st.session ∙ w
+    go a true = closed_within st.session ∙ w
     go a false = w
-performed-within (Search k wanted spill) s st f w = w
+performed_within (Search k wanted spill) s st f w = w
 
-pub run-within : (st : State) → Reached st → within_limits st.session ≡ true
+pub run_within : (st : State) → Reached st → within_limits st.session ≡ true
 unfolding step_of
-run-within _ first = start-within
-run-within _ (behind s st r) = performed-within (request_of s st.session) s st (request-fits s st.session) (run-within st r)
+run_within _ first = start_within
+run_within _ (behind s st r) = performed_within (request_of s st.session) s st (request_fits s st.session) (run_within st r)
 
-pub unknown-fifteen : (s : List ℕ) (st : State) → Reached st → 2 ≤ length s → Unknown (u16_at s 0) → step_of s st ≡ (told (Says.Refused 15), st)
+pub unknown_fifteen : (s : List ℕ) (st : State) → Reached st → 2 ≤ length s → Unknown (u16_at s 0) → step_of s st ≡ (told (Says.Refused 15), st)
 unfolding step_of
-unknown-fifteen s st r h u =
+unknown_fifteen s st r h u =
     let e : Refuse 15 ≡ request_of s st.session =
-    of-kind s st.session (u16_at s 0) (Refuse 15) (run-within st r) h refl (unknown s st.session (u16_at s 0) u.no-geometry u.no-basis u.no-addition u.no-query) in
+    of_kind s st.session (u16_at s 0) (Refuse 15) (run_within st r) h refl (unknown s st.session (u16_at s 0) u.no_geometry u.no_basis u.no_addition u.no_query) in
     ap (λ (q : Request). perform q s st) (sym e)

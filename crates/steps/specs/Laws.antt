@@ -13,17 +13,17 @@ pub data Reached : State → Type 0 where
 
 -- a kind that the program does not know
 pub record Unknown (kind : ℕ) : Type 0 where
-  pub no-geometry : kind ≡ 1 → ⊥
-  pub no-basis : kind ≡ 2 → ⊥
-  pub no-addition : kind ≡ 3 → ⊥
-  pub no-query : kind ≡ 5 → ⊥
+  pub no_geometry : kind ≡ 1 → ⊥
+  pub no_basis : kind ≡ 2 → ⊥
+  pub no_addition : kind ≡ 3 → ⊥
+  pub no_query : kind ≡ 5 → ⊥
 
 pub record Laws : Type 0 where
   -- in every run the session lies within the program's limits, so that the first test of a record never decides
-  pub run-within : (st : State) → Reached st → within_limits st.session ≡ true
+  pub run_within : (st : State) → Reached st → within_limits st.session ≡ true
   -- so an unknown kind is refused 15, never 1, and changes nothing, before the geometry as after it
-  pub unknown-fifteen : (s : List ℕ) (st : State) → Reached st → 2 ≤ length s → Unknown (u16_at s 0) → step_of s st ≡ (told (Says.Refused 15), st)
+  pub unknown_fifteen : (s : List ℕ) (st : State) → Reached st → 2 ≤ length s → Unknown (u16_at s 0) → step_of s st ≡ (told (Says.Refused 15), st)
   -- a refused record prints one line with its number, and changes nothing
-  pub refused-step : (s : List ℕ) (st : State) → (refusal_of s st ≡ 0 → ⊥) → step_of s st ≡ (told (Says.Refused (refusal_of s st)), st)
+  pub refused_step : (s : List ℕ) (st : State) → (refusal_of s st ≡ 0 → ⊥) → step_of s st ≡ (told (Says.Refused (refusal_of s st)), st)
   -- a record prints at most 5,184 bytes: a line, and 256 entries of 20
-  pub step-short : (s : List ℕ) (st : State) → length (step_of s st).0 ≤ 5184
+  pub step_short : (s : List ℕ) (st : State) → length (step_of s st).0 ≤ 5184

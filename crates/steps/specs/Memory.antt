@@ -24,10 +24,10 @@ pub record Parts (g : Session) (l : Lengths) : Type 0 where
   pub faces : l.faces ≡ face_words g.d g.n g.cap
   pub marks : l.marks ≡ set_words g.cap
   pub vectors : l.vectors ≡ vector_bytes g.d g.cap g.mode
-  pub few-bases : l.bases ≤ 256
-  pub few-faces : l.faces ≤ 256
-  pub few-marks : l.marks ≤ 4
-  pub few-vectors : l.vectors ≤ 8192
+  pub few_bases : l.bases ≤ 256
+  pub few_faces : l.faces ≤ 256
+  pub few_marks : l.marks ≤ 4
+  pub few_vectors : l.vectors ≤ 8192
 
 pub record Mem : Type 0 where
   pub bases : List Float

@@ -9,11 +9,11 @@ use Rattle.vector.specs.Answer.{Answers}
 
 pub record Laws : Type 0 where
   -- two answers to the same call are equal
-  pub one-answer : (r s : Number) (num : ℕ) (x : Float) → Answers r num x → Answers s num x → r ≡ s
+  pub one_answer : (r s : Number) (num : ℕ) (x : Float) → Answers r num x → Answers s num x → r ≡ s
   -- length 0 gives +0.0, the dot product and the distance
-  pub dot-of-none : dot_of [] [] ≡ zero32
-  pub distance-of-none : root (squares_of [] []) ≡ zero32
+  pub dot_of_none : dot_of [] [] ≡ zero32
+  pub distance_of_none : root (squares_of [] []) ≡ zero32
   -- normalising leaves as many components as there were
-  pub length-normalized : (v : List Float) → length (normalized v) ≡ length v
+  pub length_normalized : (v : List Float) → length (normalized v) ≡ length v
   -- and where it accepts, each of them is finite
-  pub finite-normalized : (v : List Float) → norm_number v ≡ 0 → all_finite (normalized v) ≡ true
+  pub finite_normalized : (v : List Float) → norm_number v ≡ 0 → all_finite (normalized v) ≡ true

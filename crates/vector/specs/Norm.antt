@@ -7,7 +7,7 @@ use Rattle.sqrt.specs.RootOf.{root}
 use Rattle.vector.specs.Fold.{dot_of, zero32}
 use Rattle.vector.specs.Finite.{is_finite, every, all_finite}
 
--- the norm: the root of a vector's dot product with itself. (`root` is the float nearest to the root: law `root-nearest` of crate sqrt.)
+-- the norm: the root of a vector's dot product with itself. (`root` is the float nearest to the root: law `root_nearest` of crate sqrt.)
 unfoldable pub norm_of : List Float → Float
 norm_of xs = root (dot_of xs xs)
 

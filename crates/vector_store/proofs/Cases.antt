@@ -9,66 +9,66 @@ use lib.Ieee.{Float}
 use lib.ListN.{length, take, drop}
 use borrow.Author.Tests.{eq-eqb, ne_eqb, le-leb, lt-leb, eqb-true}
 use Rattle.paper.specs.Geometry.{Geo, geo_ok, set_words}
-use Rattle.paper.proofs.Choice.{and_l, and_r, refuse-ok, refuse-rest}
-use Rattle.paper.proofs.Geometry.{geo-facts, face-words-by-basis}
+use Rattle.paper.proofs.Choice.{and_l, and_r, refuse_ok, refuse_rest}
+use Rattle.paper.proofs.Geometry.{geo_facts, face_words_by_basis}
 use Rattle.index_memory.specs.Memory.{Ix, own_ok, bases_ok}
-use Rattle.index_memory.proofs.Lengths.{own-sized, bases-long}
-use Rattle.index_memory.proofs.Places.{part_end, part-long, part-is}
+use Rattle.index_memory.proofs.Lengths.{own_sized, bases_long}
+use Rattle.index_memory.proofs.Places.{part_end, part_long, part_is}
 use Rattle.counting_bitmap.specs.Layers.{layer}
 use Rattle.counting_bitmap.specs.TopLayer.{top_of}
 use Rattle.counting_bitmap.specs.declared.Top.TheVariants.{Layer, Nothing}
-use Rattle.counting_bitmap.proofs.Highest.{top-layer-is}
+use Rattle.counting_bitmap.proofs.Highest.{top_layer_is}
 use Rattle.result.specs.declared.Fed.{Fed}
 use Rattle.vector.specs.Finite.{all_finite}
 use Rattle.faces.specs.Slots.{picks_of}
 use Rattle.backend_memory.specs.Ranking.{rank_of}
-use Rattle.backend_memory.proofs.Cases.{bytes-by}
+use Rattle.backend_memory.proofs.Cases.{bytes_by}
 use Rattle.candidates.specs.Gathering.{Query, query_of, target_finite, GatherIs}
 use Rattle.candidates.specs.declared.Gathered.{Gathered}
-use Rattle.candidates.proofs.Bases.{was-finite, was-not}
+use Rattle.candidates.proofs.Bases.{was_finite, was_not}
 use Rattle.vector_store.specs.Search.{refused, shown, top_rank_of, found_of, Work, Searched, searched, cleared, work_ok, search_shape, search_refusal, search_of, FindArgs}
 use Rattle.vector_store.specs.declared.Nearest.{Nearest}
 
 -- ---- an answer from a ranking
 
 module _ (dropped : ℕ) (f : Fed) where
-  pub show-refused : (r : Nearest) → (f.refusal ≡ 0 → ⊥) → r ≡ refused f.refusal → r ≡ shown dropped f
-  show-refused r h q = rw (ne_eqb f.refusal 0 h) q
+  pub show_refused : (r : Nearest) → (f.refusal ≡ 0 → ⊥) → r ≡ refused f.refusal → r ≡ shown dropped f
+  show_refused r h q = rw (ne_eqb f.refusal 0 h) q
 
-  pub show-good : f.refusal ≡ 0 → record { refusal = 0; set = f.set; dropped = dropped } ≡ shown dropped f
-  show-good h = rw (eq-eqb f.refusal 0 h)
+  pub show_good : f.refusal ≡ 0 → record { refusal = 0; set = f.set; dropped = dropped } ≡ shown dropped f
+  show_good h = rw (eq-eqb f.refusal 0 h)
 
 -- ---- the chosen layer
 
 module _ (n mode k sk w : ℕ) (ls ms vs : List ℕ) (t : List Float) (dr : ℕ) (r : Nearest) where
-  pub top-none : top_of n w ls sk ≡ Nothing → r ≡ refused 8 → r ≡ top_rank_of n mode k sk w ls ms vs t dr
+  pub top_none : top_of n w ls sk ≡ Nothing → r ≡ refused 8 → r ≡ top_rank_of n mode k sk w ls ms vs t dr
   unfolding top_rank_of
-  top-none e q = rw e q
+  top_none e q = rw e q
 
-  pub top-ranked : (i : ℕ) (f : Fed) → top_of n w ls sk ≡ Layer i → f ≡ rank_of mode k (take (i * w + w - i * w) (drop (i * w) ls)) ms vs t → r ≡ shown dr f → r ≡ top_rank_of n mode k sk w ls ms vs t dr
+  pub top_ranked : (i : ℕ) (f : Fed) → top_of n w ls sk ≡ Layer i → f ≡ rank_of mode k (take (i * w + w - i * w) (drop (i * w) ls)) ms vs t → r ≡ shown dr f → r ≡ top_rank_of n mode k sk w ls ms vs t dr
   unfolding top_rank_of
-  top-ranked i f e p q =
-      let part : f ≡ rank_of mode k (layer w ls i) ms vs t = p ∙ ap (λ (l : List ℕ). rank_of mode k l ms vs t) (part-is i w (i * w) ls refl) in
+  top_ranked i f e p q =
+      let part : f ≡ rank_of mode k (layer w ls i) ms vs t = p ∙ ap (λ (l : List ℕ). rank_of mode k l ms vs t) (part_is i w (i * w) ls refl) in
       rw e (q ∙ ap (shown dr) part)
 
 -- where it stands among the layers
 module _ (n w sk i : ℕ) (ls : List ℕ) (e : top_of n w ls sk ≡ Layer i) (l : length ls ≡ n * w) where
-  pub layer-end : i * w + w ≤ length ls
-  layer-end = part_end i n w (i * w) ls (top-layer-is n w ls sk i e).below refl l
+  pub layer_end : i * w + w ≤ length ls
+  layer_end = part_end i n w (i * w) ls (top_layer_is n w ls sk i e).below refl l
 
-  pub layer-long : length (take (i * w + w - i * w) (drop (i * w) ls)) ≡ w
-  layer-long = part-long i n w (i * w) ls (top-layer-is n w ls sk i e).below refl l
+  pub layer_long : length (take (i * w + w - i * w) (drop (i * w) ls)) ≡ w
+  layer_long = part_long i n w (i * w) ls (top_layer_is n w ls sk i e).below refl l
 
 -- ---- past the gathering
 
 module _ (n mode k sk : ℕ) (q : Query) (ms vs ls : List ℕ) (g : Gathered) (r : Nearest) (o : GatherIs n q g ls) where
-  pub found-refused : (g.refusal ≡ 0 → ⊥) → r ≡ refused 7 → r ≡ found_of n mode k sk q ms vs
+  pub found_refused : (g.refusal ≡ 0 → ⊥) → r ≡ refused 7 → r ≡ found_of n mode k sk q ms vs
   unfolding found_of
-  found-refused h e = rw (was-not (target_finite q n) g.refusal o.answer h) e
+  found_refused h e = rw (was_not (target_finite q n) g.refusal o.answer h) e
 
-  pub found-done : g.refusal ≡ 0 → r ≡ top_rank_of n mode k sk q.w ls ms vs q.target g.dropped → r ≡ found_of n mode k sk q ms vs
+  pub found_done : g.refusal ≡ 0 → r ≡ top_rank_of n mode k sk q.w ls ms vs q.target g.dropped → r ≡ found_of n mode k sk q ms vs
   unfolding found_of
-  found-done h e = rw (was-finite (target_finite q n) g.refusal o.answer h, ← o.layers h, ← o.dropped h) e
+  found_done h e = rw (was_finite (target_finite q n) g.refusal o.answer h, ← o.layers h, ← o.dropped h) e
 
 -- ---- the public call
 
@@ -85,9 +85,9 @@ pub record WorkFacts (d n cap lt lw ll ls : ℕ) : Type 0 where
   pub layers : ll ≡ n * set_words cap
   pub set : ls ≡ set_words cap
 
-work-facts : (d n cap lt lw ll ls : ℕ) → work_ok d n cap lt lw ll ls ≡ true → WorkFacts d n cap lt lw ll ls
+work_facts : (d n cap lt lw ll ls : ℕ) → work_ok d n cap lt lw ll ls ≡ true → WorkFacts d n cap lt lw ll ls
 unfolding work_ok
-work-facts d n cap lt lw ll ls e =
+work_facts d n cap lt lw ll ls e =
     let e1 = and_r (eqb lt d) _ e in
     let e2 = and_r (eqb lw d) _ e1 in
     record {
@@ -97,40 +97,40 @@ work-facts d n cap lt lw ll ls e =
       set = eqb-true _ _ (and_r (eqb ll (n * set_words cap)) _ e2);
     }
 
-faces-by : (lf d n cap lt ls : ℕ) → lf ≡ n * (2 * d * set_words cap) → lt ≡ d → ls ≡ set_words cap → lf ≡ n * (2 * lt * ls)
-faces-by lf d n cap lt ls e p q = rw (p, q) e
+faces_by : (lf d n cap lt ls : ℕ) → lf ≡ n * (2 * d * set_words cap) → lt ≡ d → ls ≡ set_words cap → lf ≡ n * (2 * lt * ls)
+faces_by lf d n cap lt ls e p q = rw (p, q) e
 
-pub shape-work : (g : Geo) (lb lf lm lv lt lw ll ls : ℕ) → search_shape g lb lf lm lv lt lw ll ls ≡ 0 → WorkFacts g.d g.n g.cap lt lw ll ls
+pub shape_work : (g : Geo) (lb lf lm lv lt lw ll ls : ℕ) → search_shape g lb lf lm lv lt lw ll ls ≡ 0 → WorkFacts g.d g.n g.cap lt lw ll ls
 unfolding search_shape
-shape-work g lb lf lm lv lt lw ll ls e =
-    let r1 = refuse-rest (geo_ok g.d g.n g.cap g.mode) 1 _ not1 e in
-    let r2 = refuse-rest (own_ok g.d g.n g.cap g.mode lf lm lv) 2 _ not2 r1 in
-    let r3 = refuse-rest (bases_ok g.d g.n lb) 2 _ not2 r2 in
-    work-facts g.d g.n g.cap lt lw ll ls (refuse-ok (work_ok g.d g.n g.cap lt lw ll ls) 2 0 not2 r3)
+shape_work g lb lf lm lv lt lw ll ls e =
+    let r1 = refuse_rest (geo_ok g.d g.n g.cap g.mode) 1 _ not1 e in
+    let r2 = refuse_rest (own_ok g.d g.n g.cap g.mode lf lm lv) 2 _ not2 r1 in
+    let r3 = refuse_rest (bases_ok g.d g.n lb) 2 _ not2 r2 in
+    work_facts g.d g.n g.cap lt lw ll ls (refuse_ok (work_ok g.d g.n g.cap lt lw ll ls) 2 0 not2 r3)
 
-pub find-args : (g : Geo) (k lb lf lm lv lt lw ll ls s : ℕ) → s ≡ search_shape g lb lf lm lv lt lw ll ls → s ≡ 0 → k ≤ 256 → FindArgs g.n g.mode k lb lf lm lv lt lw ll ls
+pub find_args : (g : Geo) (k lb lf lm lv lt lw ll ls s : ℕ) → s ≡ search_shape g lb lf lm lv lt lw ll ls → s ≡ 0 → k ≤ 256 → FindArgs g.n g.mode k lb lf lm lv lt lw ll ls
 unfolding search_shape
-find-args g k lb lf lm lv lt lw ll ls s q z kh =
+find_args g k lb lf lm lv lt lw ll ls s q z kh =
     let e : search_shape g lb lf lm lv lt lw ll ls ≡ 0 = sym q ∙ z in
-    let gt = refuse-ok (geo_ok g.d g.n g.cap g.mode) 1 _ not1 e in
-    let r1 = refuse-rest (geo_ok g.d g.n g.cap g.mode) 1 _ not1 e in
-    let ot = refuse-ok (own_ok g.d g.n g.cap g.mode lf lm lv) 2 _ not2 r1 in
-    let r2 = refuse-rest (own_ok g.d g.n g.cap g.mode lf lm lv) 2 _ not2 r1 in
-    let G = geo-facts g.d g.n g.cap g.mode gt in
-    let O = own-sized g.d g.n g.cap g.mode lf lm lv gt ot in
-    let B = bases-long g.d g.n lb (refuse-ok (bases_ok g.d g.n lb) 2 _ not2 r2) in
-    let W = shape-work g lb lf lm lv lt lw ll ls e in
-    let c : g.cap ≡ ls * 64 = omega (arith, W.set, G.cap-even) in
+    let gt = refuse_ok (geo_ok g.d g.n g.cap g.mode) 1 _ not1 e in
+    let r1 = refuse_rest (geo_ok g.d g.n g.cap g.mode) 1 _ not1 e in
+    let ot = refuse_ok (own_ok g.d g.n g.cap g.mode lf lm lv) 2 _ not2 r1 in
+    let r2 = refuse_rest (own_ok g.d g.n g.cap g.mode lf lm lv) 2 _ not2 r1 in
+    let G = geo_facts g.d g.n g.cap g.mode gt in
+    let O = own_sized g.d g.n g.cap g.mode lf lm lv gt ot in
+    let B = bases_long g.d g.n lb (refuse_ok (bases_ok g.d g.n lb) 2 _ not2 r2) in
+    let W = shape_work g lb lf lm lv lt lw ll ls e in
+    let c : g.cap ≡ ls * 64 = omega (arith, W.set, G.cap_even) in
     record {
-      n-high = G.n-high;
-      k-high = kh;
-      w-high = omega (arith, W.set, G.cap-high);
-      d-low = omega (arith, W.target, G.d-low);
-      d-high = omega (arith, W.target, G.d-high);
+      n_high = G.n_high;
+      k_high = kh;
+      w_high = omega (arith, W.set, G.cap_high);
+      d_low = omega (arith, W.target, G.d_low);
+      d_high = omega (arith, W.target, G.d_high);
       bases = rw W.target B;
-      faces = faces-by lf g.d g.n g.cap lt ls (O.faces ∙ face-words-by-basis g.d g.n g.cap) W.target W.set;
+      faces = faces_by lf g.d g.n g.cap lt ls (O.faces ∙ face_words_by_basis g.d g.n g.cap) W.target W.set;
       marks = O.marks ∙ sym W.set;
-      vectors = bytes-by lv g.d g.cap g.mode ls lt O.vecs c W.target;
+      vectors = bytes_by lv g.d g.cap g.mode ls lt O.vecs c W.target;
       work = W.work ∙ sym W.target;
       layers = rw W.set W.layers;
     }
@@ -139,24 +139,24 @@ module _ (g : Geo) (bs : List Float) (ix : Ix) (t : List Float) (k sk spill : �
   abbrev shape : ℕ
   shape = search_shape g (length bs) (length ix.faces) (length ix.marks) (length ix.vecs) (length t) (length m.work) (length m.layers) (length m.set)
 
-  pub search-shape : (s : ℕ) (r : Nearest) → s ≡ shape → (s ≡ 0 → ⊥) → r ≡ refused s → searched r m ≡ search_of g bs ix t k sk spill m
+  pub search_shape_lem : (s : ℕ) (r : Nearest) → s ≡ shape → (s ≡ 0 → ⊥) → r ≡ refused s → searched r m ≡ search_of g bs ix t k sk spill m
   unfolding search_of search_refusal
-  search-shape s r e h q = simp (← e, ne_eqb s 0 h, q)
+  search_shape_lem s r e h q = simp (← e, ne_eqb s 0 h, q)
 
-  pub search-four : (s : ℕ) (r : Nearest) → s ≡ shape → s ≡ 0 → 256 < k → r ≡ refused 4 → searched r m ≡ search_of g bs ix t k sk spill m
+  pub search_four : (s : ℕ) (r : Nearest) → s ≡ shape → s ≡ 0 → 256 < k → r ≡ refused 4 → searched r m ≡ search_of g bs ix t k sk spill m
   unfolding search_of search_refusal
-  search-four s r e z h q = simp (← e, eq-eqb s 0 z, lt-leb k 256 h, q)
+  search_four s r e z h q = simp (← e, eq-eqb s 0 z, lt-leb k 256 h, q)
 
-  pub search-five : (s : ℕ) (r : Nearest) → s ≡ shape → s ≡ 0 → k ≤ 256 → all_finite t ≡ false → r ≡ refused 5 → searched r m ≡ search_of g bs ix t k sk spill m
+  pub search_five : (s : ℕ) (r : Nearest) → s ≡ shape → s ≡ 0 → k ≤ 256 → all_finite t ≡ false → r ≡ refused 5 → searched r m ≡ search_of g bs ix t k sk spill m
   unfolding search_of search_refusal
-  search-five s r e z h f q = simp (← e, eq-eqb s 0 z, le-leb k 256 h, f, q)
+  search_five s r e z h f q = simp (← e, eq-eqb s 0 z, le-leb k 256 h, f, q)
 
-  pub search-done : (s : ℕ) (x : Searched) (picks : ℕ) → s ≡ shape → s ≡ 0 → k ≤ 256 → all_finite t ≡ true → picks ≡ picks_of g.d spill
+  pub search_done : (s : ℕ) (x : Searched) (picks : ℕ) → s ≡ shape → s ≡ 0 → k ≤ 256 → all_finite t ≡ true → picks ≡ picks_of g.d spill
       → x ≡ searched (found_of g.n g.mode k sk (query_of bs ix.faces t (length m.set) picks) ix.marks ix.vecs) (cleared m) → x ≡ search_of g bs ix t k sk spill m
   unfolding search_of search_refusal
-  search-done s x picks e y h f p q =
+  search_done s x picks e y h f p q =
       let z : shape ≡ 0 = sym e ∙ y in
-      let W = shape-work g (length bs) (length ix.faces) (length ix.marks) (length ix.vecs) (length t) (length m.work) (length m.layers) (length m.set) z in
+      let W = shape_work g (length bs) (length ix.faces) (length ix.marks) (length ix.vecs) (length t) (length m.work) (length m.layers) (length m.set) z in
       let q' : x ≡ searched (found_of g.n g.mode k sk (query_of bs ix.faces t (set_words g.cap) (picks_of g.d spill)) ix.marks ix.vecs) (cleared m) =
       q ∙ ap (λ (v : ℕ). searched (found_of g.n g.mode k sk (query_of bs ix.faces t v picks) ix.marks ix.vecs) (cleared m)) W.set
       ∙ ap (λ (v : ℕ). searched (found_of g.n g.mode k sk (query_of bs ix.faces t (set_words g.cap) v) ix.marks ix.vecs) (cleared m)) p in

@@ -109,20 +109,20 @@ pub record AcceptedSearch (n mode k sk : ℕ) (q : Query) (ms vs : List ℕ) (r 
 -- ---- what the inner calls ask of lengths
 
 pub record TopArgs (n w mode k ll lm lv lt : ℕ) : Type 0 where
-  pub k-high : k ≤ 256
-  pub w-high : w ≤ 1024
+  pub k_high : k ≤ 256
+  pub w_high : w ≤ 1024
   pub layers : ll ≡ n * w
   pub marks : lm ≡ w
-  pub d-low : 1 ≤ lt
-  pub d-high : lt ≤ 1024
+  pub d_low : 1 ≤ lt
+  pub d_high : lt ≤ 1024
   pub vectors : lv ≡ w * 64 * slot_bytes lt mode
 
 pub record FindArgs (n mode k lb lf lm lv lt lw ll ls : ℕ) : Type 0 where
-  pub n-high : n ≤ 32
-  pub k-high : k ≤ 256
-  pub w-high : ls ≤ 1024
-  pub d-low : 1 ≤ lt
-  pub d-high : lt ≤ 1024
+  pub n_high : n ≤ 32
+  pub k_high : k ≤ 256
+  pub w_high : ls ≤ 1024
+  pub d_low : 1 ≤ lt
+  pub d_high : lt ≤ 1024
   pub bases : lb ≡ n * (lt * lt)
   pub faces : lf ≡ n * (2 * lt * ls)
   pub marks : lm ≡ ls

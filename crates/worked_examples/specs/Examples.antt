@@ -102,4 +102,4 @@ All (e ∷ es) = Holds e × All es
 
 -- the one claim: P1 to P12 hold
 pub record Laws : Type 0 where
-  pub examples-hold : All examples
+  pub examples_hold : All examples

@@ -5,7 +5,7 @@ use native.Mathlib.Omega.{arith}
 use borrow.Author.Rules.{rules}
 use lib.ListN.{length, length-set}
 use Rattle.paper.proofs.Copies.{copy_more}
-use Rattle.adding.proofs.Turns.{copy-all}
+use Rattle.adding.proofs.Turns.{copy_all}
 use Rattle.adding.proofs.copy_into.Goals as goal
 
 pub loop-i-init : goal.loop-i-init
@@ -44,4 +44,4 @@ returns c =
     let a = c.args in
     let e : c.loop-i.i ≡ length a.v.now = omega arith in
     let k : length a.work.now ≡ length a.v.now = c.requires in
-    v.2 ∙ copy-all _ _ _ e k
+    v.2 ∙ copy_all _ _ _ e k

@@ -7,9 +7,9 @@ use native.Mathlib.Nat.{mul-le-mul, mul-le-mul_left, le_of_lt}
 use borrow.Author.Rules.{rules}
 use lib.ListN.{length}
 use lib.Seq.{sets, take_all}
-use Rattle.paper.proofs.Geometry.{comp-le}
+use Rattle.paper.proofs.Geometry.{comp_le}
 use Rattle.quantization.specs.Stored.{lower_bytes}
-use Rattle.adding.proofs.Turns.{lowered-more, lowered_none, room}
+use Rattle.adding.proofs.Turns.{lowered_more, lowered_none, room}
 use Rattle.adding.proofs.put_components.Goals as goal
 
 pub loop-i-init : goal.loop-i-init
@@ -17,7 +17,7 @@ loop-i-init c = (search rules, refl, lowered_none _ _ _ c.args.work.now)
 
 pub overflow_mul-size : goal.overflow_mul-size
 overflow_mul-size c =
-    let s : c.component_size-size.result ≤ 4 = rw c.component_size-size.ensures (comp-le _) in
+    let s : c.component_size-size.result ≤ 4 = rw c.component_size-size.ensures (comp_le _) in
     omega (arith, mul-le-mul s (le_of_lt c.loop-i-test.true))
 
 pub overflow_add-at : goal.overflow_add-at
@@ -48,7 +48,7 @@ loop-i-preserved c =
     let a = c.args in (
       omega (arith, c.loop-i-test),
       c.put_component.auto.array ∙ c.loop-i.invariant.1,
-      c.put_component.ensures ∙ rw (c.loop-i.invariant.2, c.component_size-size.ensures) (lowered-more a.mode a.vectors.now a.at a.work.now c.loop-i.i _ c.loop-i-test.true),
+      c.put_component.ensures ∙ rw (c.loop-i.invariant.2, c.component_size-size.ensures) (lowered_more a.mode a.vectors.now a.at a.work.now c.loop-i.i _ c.loop-i-test.true),
     )
 
 pub shape_of-vectors : goal.shape_of-vectors

@@ -6,19 +6,19 @@ use native.Mathlib.Omega.{arith}
 use native.Mathlib.Nat.{mul-le-mul}
 use borrow.Author.Rules.{rules}
 use lib.ListN.{length, length-set}
-use Rattle.index_memory.proofs.Places.{part_end, part-long}
+use Rattle.index_memory.proofs.Places.{part_end, part_long}
 use Rattle.vector.specs.Finite.{all_finite}
 use Rattle.faces.specs.Slots.{slot_of}
 use Rattle.basis.specs.Bases.{projection_at, projections_finite}
 use Rattle.adding.specs.Adding.{face_slot}
-use Rattle.basis.proofs.Bases.{finite-more, finite-no}
-use Rattle.adding.proofs.Turns.{projection-here, next-part, slot-more}
-use Rattle.adding.proofs.Cases.{slots-refused, slots-found}
+use Rattle.basis.proofs.Bases.{finite_more, finite_no}
+use Rattle.adding.proofs.Turns.{projection_here, next_part, slot_more}
+use Rattle.adding.proofs.Cases.{slots_refused, slots_found}
 use Rattle.adding.proofs.slots_of.Goals as goal
 use Rattle.adding.proofs.slots_of.Goals.{In-loop-b}
 
 pub overflow_mul-square : goal.overflow_mul-square
-overflow_mul-square c = omega (arith, mul-le-mul c.requires.d-high c.requires.d-high)
+overflow_mul-square c = omega (arith, mul-le-mul c.requires.d_high c.requires.d_high)
 
 pub loop-b-init : goal.loop-b-init
 unfolding projections_finite
@@ -43,7 +43,7 @@ pub project-requires : goal.project-requires
 project-requires c =
     let a = c.args in
     record {
-      rows = part-long c.loop-b.b a.n (a.d * a.d) c.loop-b.p a.bases.now c.loop-b-test.true c.loop-b.invariant.1 c.requires.bases ∙ ap (λ (k : ℕ). k * k) (sym c.requires.vector);
+      rows = part_long c.loop-b.b a.n (a.d * a.d) c.loop-b.p a.bases.now c.loop-b-test.true c.loop-b.invariant.1 c.requires.bases ∙ ap (λ (k : ℕ). k * k) (sym c.requires.vector);
       room = c.loop-b.invariant.2 ∙ sym c.requires.vector;
     }
 
@@ -53,30 +53,30 @@ shape_of-work-then-not-all_finite c = c.project.auto.work ∙ c.loop-b.invariant
 pub returns-then-not-all_finite : goal.returns-then-not-all_finite
 returns-then-not-all_finite c =
     let a = c.args in
-    let w = c.project.ensures ∙ projection-here a.d c.loop-b.p c.loop-b.b a.bases.now a.v.now c.loop-b.invariant.1 in
+    let w = c.project.ensures ∙ projection_here a.d c.loop-b.p c.loop-b.b a.bases.now a.v.now c.loop-b.invariant.1 in
     let f : all_finite (projection_at a.d a.bases.now a.v.now c.loop-b.b) ≡ false = ap all_finite (sym w) ∙ sym c.all_finite.ensures ∙ c.if-not-all_finite.true in
-    slots-refused a.d a.n a.bases.now a.v.now c.loop-b.slots (finite-no a.d a.bases.now a.v.now a.n c.loop-b.b c.loop-b-test.true f)
+    slots_refused a.d a.n a.bases.now a.v.now c.loop-b.slots (finite_no a.d a.bases.now a.v.now a.n c.loop-b.b c.loop-b-test.true f)
 
 pub slot-requires : goal.slot-requires
 slot-requires c =
     let l = c.project.auto.work ∙ c.loop-b.invariant.2 in
     record {
-      some = omega (arith, l, c.requires.d-low);
-      few = omega (arith, l, c.requires.d-high);
+      some = omega (arith, l, c.requires.d_low);
+      few = omega (arith, l, c.requires.d_high);
       finite = sym c.all_finite.ensures ∙ c.if-not-all_finite.false;
     }
 
 pub offset_bounds-slots-b : goal.offset_bounds-slots-b
-offset_bounds-slots-b c = omega (arith, c.loop-b-test, c.requires.n-high)
+offset_bounds-slots-b c = omega (arith, c.loop-b-test, c.requires.n_high)
 
 pub bounds-slots-b : goal.bounds-slots-b
-bounds-slots-b c = omega (arith, c.loop-b-test, c.requires.n-high)
+bounds-slots-b c = omega (arith, c.loop-b-test, c.requires.n_high)
 
 pub overflow_add-p-in-loop-b : goal.overflow_add-p-in-loop-b
 overflow_add-p-in-loop-b c = omega (arith, here (goal.at.overflow_add-p-in-loop-b c).In-loop-b)
 
 pub overflow_add-b : goal.overflow_add-b
-overflow_add-b c = omega (arith, c.loop-b-test, c.requires.n-high)
+overflow_add-b c = omega (arith, c.loop-b-test, c.requires.n_high)
 
 pub loop-b-smaller : goal.loop-b-smaller
 loop-b-smaller c = omega (arith, c.loop-b-test)
@@ -84,15 +84,15 @@ loop-b-smaller c = omega (arith, c.loop-b-test)
 pub loop-b-preserved : goal.loop-b-preserved
 loop-b-preserved c =
     let a = c.args in
-    let w = c.project.ensures ∙ projection-here a.d c.loop-b.p c.loop-b.b a.bases.now a.v.now c.loop-b.invariant.1 in
+    let w = c.project.ensures ∙ projection_here a.d c.loop-b.p c.loop-b.b a.bases.now a.v.now c.loop-b.invariant.1 in
     let f : all_finite (projection_at a.d a.bases.now a.v.now c.loop-b.b) ≡ true = ap all_finite (sym w) ∙ sym c.all_finite.ensures ∙ c.if-not-all_finite.false in
-    let few : c.loop-b.b < length c.loop-b.slots = omega (arith, c.loop-b.invariant.3, c.loop-b-test, c.requires.n-high) in (
+    let few : c.loop-b.b < length c.loop-b.slots = omega (arith, c.loop-b.invariant.3, c.loop-b-test, c.requires.n_high) in (
       omega (arith, c.loop-b-test),
-      next-part c.loop-b.b (a.d * a.d) c.loop-b.p c.loop-b.invariant.1,
+      next_part c.loop-b.b (a.d * a.d) c.loop-b.p c.loop-b.invariant.1,
       c.project.auto.work ∙ c.loop-b.invariant.2,
       simp length-set c.loop-b.invariant.3,
-      finite-more a.d a.bases.now a.v.now c.loop-b.b c.loop-b.invariant.4 f,
-      slot-more (face_slot a.d a.bases.now a.v.now) c.loop-b.slots c.loop-b.b _ few c.loop-b.invariant.5 (c.slot.ensures.0 ∙ ap slot_of w),
+      finite_more a.d a.bases.now a.v.now c.loop-b.b c.loop-b.invariant.4 f,
+      slot_more (face_slot a.d a.bases.now a.v.now) c.loop-b.slots c.loop-b.b _ few c.loop-b.invariant.5 (c.slot.ensures.0 ∙ ap slot_of w),
     )
 
 pub shape_of-work : goal.shape_of-work
@@ -102,5 +102,5 @@ pub returns : goal.returns
 returns c =
     let a = c.args in
     let e : c.loop-b.b ≡ a.n = omega (arith, c.loop-b.invariant.0, c.loop-b-test) in
-    slots-found a.d a.n a.bases.now a.v.now c.loop-b.slots (ap (λ (k : ℕ). projections_finite a.d a.bases.now a.v.now k) (sym e) ∙ c.loop-b.invariant.4)
+    slots_found a.d a.n a.bases.now a.v.now c.loop-b.slots (ap (λ (k : ℕ). projections_finite a.d a.bases.now a.v.now k) (sym e) ∙ c.loop-b.invariant.4)
     (λ j l. c.loop-b.invariant.5 j (subst (λ (k : ℕ). j < k) (sym e) l))

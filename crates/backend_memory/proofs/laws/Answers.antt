@@ -1,23 +1,23 @@
 -- `backend_memory::laws` meets its contract. Assumes nothing.
-use Rattle.backend_memory.proofs.Counts.{rank-checked, rank-order, scan-ranks}
-use Rattle.backend_memory.proofs.Listed.{rank-listed}
-use Rattle.backend_memory.proofs.Best.{rank-long, rank-best}
-use Rattle.backend_memory.proofs.Cases.{scan-checked, scan-listed, scan-order, scan-long, scan-best, scan-sound}
+use Rattle.backend_memory.proofs.Counts.{rank_checked, rank_order, scan_ranks}
+use Rattle.backend_memory.proofs.Listed.{rank_listed}
+use Rattle.backend_memory.proofs.Best.{rank_long, rank_best}
+use Rattle.backend_memory.proofs.Cases.{scan_checked, scan_listed, scan_order, scan_long, scan_best, scan_sound}
 use Rattle.backend_memory.proofs.laws.Goals as goal
 
 pub returns : goal.returns
 returns c =
     record {
-      rank-checked = rank-checked;
-      rank-listed = rank-listed;
-      rank-order = rank-order;
-      rank-long = rank-long;
-      rank-best = rank-best;
-      scan-ranks = scan-ranks;
-      scan-checked = λ g ms vs t k w e. scan-checked g ms vs t k e w;
-      scan-listed = scan-listed;
-      scan-order = scan-order;
-      scan-long = scan-long;
-      scan-best = scan-best;
-      scan-sound = λ g ms vs t k. (scan-sound g ms vs t k).formed;
+      rank_checked = rank_checked;
+      rank_listed = rank_listed;
+      rank_order = rank_order;
+      rank_long = rank_long;
+      rank_best = rank_best;
+      scan_ranks = scan_ranks;
+      scan_checked = λ g ms vs t k w e. scan_checked g ms vs t k e w;
+      scan_listed = scan_listed;
+      scan_order = scan_order;
+      scan_long = scan_long;
+      scan_best = scan_best;
+      scan_sound = λ g ms vs t k. (scan_sound g ms vs t k).formed;
     }

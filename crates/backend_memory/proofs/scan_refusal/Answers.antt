@@ -1,7 +1,7 @@
 -- `backend_memory::scan_refusal` meets its contract. Assumes nothing.
 use mathlib.Core.Path.{◌∙◌, sym}
 use borrow.Author.Tests.{le-leb, lt-leb, eq-eqb, ne_eqb}
-use Rattle.paper.proofs.Geometry.{geo-facts}
+use Rattle.paper.proofs.Geometry.{geo_facts}
 use Rattle.backend_memory.specs.Scan.{scan_refusal}
 use Rattle.backend_memory.proofs.scan_refusal.Goals as goal
 
@@ -10,7 +10,7 @@ unfolding scan_refusal
 returns-then-not-geometry_ok c = simp (sym c.geometry_ok.ensures ∙ c.if-not-geometry_ok.true)
 
 pub store_lengths_ok-requires : goal.store_lengths_ok-requires
-store_lengths_ok-requires c = let f = geo-facts _ _ _ _ (sym c.geometry_ok.ensures ∙ c.if-not-geometry_ok.false) in (f.d-high, f.cap-high)
+store_lengths_ok-requires c = let f = geo_facts _ _ _ _ (sym c.geometry_ok.ensures ∙ c.if-not-geometry_ok.false) in (f.d_high, f.cap_high)
 
 pub returns-then-not-store_lengths_ok : goal.returns-then-not-store_lengths_ok
 unfolding scan_refusal

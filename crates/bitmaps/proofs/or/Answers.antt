@@ -1,13 +1,13 @@
 -- `or` meets its contract: refused, or done by `inner::or`. Assumes nothing.
 use mathlib.Core.Path.{sym, ◌∙◌}
-use Rattle.bitmaps.proofs.Checks.{changed-refused, changed-done, pair-accepted}
+use Rattle.bitmaps.proofs.Checks.{changed_refused, changed_done, pair_accepted}
 use Rattle.bitmaps.proofs.or.Goals as goal
 
 pub returns-then-f-ne0 : goal.returns-then-f-ne0
-returns-then-f-ne0 c = changed-refused _ _ _ _ c.pair_fault-f.ensures c.if-f-ne0.true
+returns-then-f-ne0 c = changed_refused _ _ _ _ c.pair_fault-f.ensures c.if-f-ne0.true
 
 pub or-requires : goal.or-requires
-or-requires c = sym (pair-accepted _ _ _ (sym c.pair_fault-f.ensures ∙ c.if-f-ne0.false)).1
+or-requires c = sym (pair_accepted _ _ _ (sym c.pair_fault-f.ensures ∙ c.if-f-ne0.false)).1
 
 pub returns : goal.returns
-returns c = changed-done _ _ _ _ (sym c.pair_fault-f.ensures ∙ c.if-f-ne0.false) c.or.ensures
+returns c = changed_done _ _ _ _ (sym c.pair_fault-f.ensures ∙ c.if-f-ne0.false) c.or.ensures

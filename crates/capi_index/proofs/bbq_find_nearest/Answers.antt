@@ -5,7 +5,7 @@ use Rattle.index_memory.specs.Memory.{ix_of}
 use Rattle.vector_store.specs.Search.{works}
 use Rattle.capi_sets.specs.Lists.{outs}
 use Rattle.capi_sets.proofs.Lists.{room}
-use Rattle.capi_index.proofs.Cases.{search-fits, search-geometry, search-room, search-into}
+use Rattle.capi_index.proofs.Cases.{search_fits, search_geometry, search_room, search_into_lem}
 use Rattle.capi_index.proofs.bbq_find_nearest.Goals as goal
 
 pub geometry_ok-requires : goal.geometry_ok-requires
@@ -18,7 +18,7 @@ returns-then-not-geometry_ok c =
     let ix = ix_of a.faces.now a.marks.now a.vectors.now in
     let m = works a.work.now a.layers.now a.set.now in
     let o = outs a.ids.now a.scores.now a.counts.now in
-    search-geometry g a.bases.now ix a.target.now a.k a.search_k a.spill m o (sym c.geometry_ok.ensures ∙ c.if-not-geometry_ok.true)
+    search_geometry g a.bases.now ix a.target.now a.k a.search_k a.spill m o (sym c.geometry_ok.ensures ∙ c.if-not-geometry_ok.true)
 
 pub room_ok-requires : goal.room_ok-requires
 room_ok-requires c = tt
@@ -30,7 +30,7 @@ returns-then-not-room_ok c =
     let ix = ix_of a.faces.now a.marks.now a.vectors.now in
     let m = works a.work.now a.layers.now a.set.now in
     let o = outs a.ids.now a.scores.now a.counts.now in
-    search-room g a.bases.now ix a.target.now a.k a.search_k a.spill m o (sym c.geometry_ok.ensures ∙ c.if-not-geometry_ok.false) (sym c.room_ok.ensures ∙ c.if-not-room_ok.true)
+    search_room g a.bases.now ix a.target.now a.k a.search_k a.spill m o (sym c.geometry_ok.ensures ∙ c.if-not-geometry_ok.false) (sym c.room_ok.ensures ∙ c.if-not-room_ok.true)
 
 pub find_nearest-nearest-requires : goal.find_nearest-nearest-requires
 find_nearest-nearest-requires c = tt
@@ -42,7 +42,7 @@ put_nearest-requires c =
     let ix = ix_of a.faces.now a.marks.now a.vectors.now in
     let m = works a.work.now a.layers.now a.set.now in
     let r = room _ _ _ _ _ (sym c.room_ok.ensures ∙ c.if-not-room_ok.false) in
-    (search-fits g a.bases.now ix a.target.now a.k a.search_k a.spill m _ _ _ c.find_nearest-nearest.ensures r.ids r.scores, r.counts)
+    (search_fits g a.bases.now ix a.target.now a.k a.search_k a.spill m _ _ _ c.find_nearest-nearest.ensures r.ids r.scores, r.counts)
 
 pub shape_of-work : goal.shape_of-work
 shape_of-work c = c.find_nearest-nearest.auto.work
@@ -69,5 +69,5 @@ returns c =
     let ix = ix_of a.faces.now a.marks.now a.vectors.now in
     let m = works a.work.now a.layers.now a.set.now in
     let o = outs a.ids.now a.scores.now a.counts.now in
-    search-into g a.bases.now ix a.target.now a.k a.search_k a.spill m o _ _ (sym c.geometry_ok.ensures ∙ c.if-not-geometry_ok.false) (sym c.room_ok.ensures ∙ c.if-not-room_ok.false)
+    search_into_lem g a.bases.now ix a.target.now a.k a.search_k a.spill m o _ _ (sym c.geometry_ok.ensures ∙ c.if-not-geometry_ok.false) (sym c.room_ok.ensures ∙ c.if-not-room_ok.false)
     c.find_nearest-nearest.ensures c.put_nearest.ensures

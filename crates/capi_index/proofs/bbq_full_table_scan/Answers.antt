@@ -3,7 +3,7 @@ use mathlib.Core.Path.{sym, ◌∙◌}
 use Rattle.paper.specs.Geometry.{geo}
 use Rattle.capi_sets.specs.Lists.{outs}
 use Rattle.capi_sets.proofs.Lists.{room}
-use Rattle.capi_index.proofs.Cases.{scan-fits, scan-geometry, scan-room, scan-into}
+use Rattle.capi_index.proofs.Cases.{scan_fits, scan_geometry, scan_room, scan_into_lem}
 use Rattle.capi_index.proofs.bbq_full_table_scan.Goals as goal
 
 pub geometry_ok-requires : goal.geometry_ok-requires
@@ -14,7 +14,7 @@ returns-then-not-geometry_ok c =
     let a = c.args in
     let g = geo a.d a.n a.cap a.mode in
     let o = outs a.ids.now a.scores.now a.counts.now in
-    scan-geometry g a.marks.now a.vectors.now a.target.now a.k o (sym c.geometry_ok.ensures ∙ c.if-not-geometry_ok.true)
+    scan_geometry g a.marks.now a.vectors.now a.target.now a.k o (sym c.geometry_ok.ensures ∙ c.if-not-geometry_ok.true)
 
 pub room_ok-requires : goal.room_ok-requires
 room_ok-requires c = tt
@@ -24,7 +24,7 @@ returns-then-not-room_ok c =
     let a = c.args in
     let g = geo a.d a.n a.cap a.mode in
     let o = outs a.ids.now a.scores.now a.counts.now in
-    scan-room g a.marks.now a.vectors.now a.target.now a.k o (sym c.geometry_ok.ensures ∙ c.if-not-geometry_ok.false) (sym c.room_ok.ensures ∙ c.if-not-room_ok.true)
+    scan_room g a.marks.now a.vectors.now a.target.now a.k o (sym c.geometry_ok.ensures ∙ c.if-not-geometry_ok.false) (sym c.room_ok.ensures ∙ c.if-not-room_ok.true)
 
 pub full_table_scan-fed-requires : goal.full_table_scan-fed-requires
 full_table_scan-fed-requires c = tt
@@ -34,7 +34,7 @@ put_fed-requires c =
     let a = c.args in
     let g = geo a.d a.n a.cap a.mode in
     let r = room _ _ _ _ _ (sym c.room_ok.ensures ∙ c.if-not-room_ok.false) in
-    (scan-fits g a.marks.now a.vectors.now a.target.now a.k _ _ _ c.full_table_scan-fed.ensures r.ids r.scores, r.counts)
+    (scan_fits g a.marks.now a.vectors.now a.target.now a.k _ _ _ c.full_table_scan-fed.ensures r.ids r.scores, r.counts)
 
 pub shape_of-ids : goal.shape_of-ids
 shape_of-ids c = c.put_fed.auto.ids
@@ -50,5 +50,5 @@ returns c =
     let a = c.args in
     let g = geo a.d a.n a.cap a.mode in
     let o = outs a.ids.now a.scores.now a.counts.now in
-    scan-into g a.marks.now a.vectors.now a.target.now a.k o _ _ (sym c.geometry_ok.ensures ∙ c.if-not-geometry_ok.false) (sym c.room_ok.ensures ∙ c.if-not-room_ok.false)
+    scan_into_lem g a.marks.now a.vectors.now a.target.now a.k o _ _ (sym c.geometry_ok.ensures ∙ c.if-not-geometry_ok.false) (sym c.room_ok.ensures ∙ c.if-not-room_ok.false)
     c.full_table_scan-fed.ensures c.put_fed.ensures

@@ -4,29 +4,29 @@ use mathlib.Core.Path.{sym, ◌∙◌}
 use borrow.Author.Tests.{not-true, not-false}
 use Rattle.capi_sets.specs.Lists.{outs}
 use Rattle.capi_sets.proofs.Lists.{room}
-use Rattle.capi_sets.proofs.Feeds.{feed-fits, feed-unequal, feed-room, feed-into}
+use Rattle.capi_sets.proofs.Feeds.{feed_fits, feed_unequal, feed_room, feed_into_lem}
 use Rattle.capi_sets.proofs.bbq_feed.Goals as goal
 
 pub returns-then-ids-scores : goal.returns-then-ids-scores
 returns-then-ids-scores c =
     let a = c.args in
     let o = outs a.out_ids.now a.out_scores.now a.counts.now in
-    feed-unequal a.k a.ids.now a.scores.now o c.if-ids-scores.true
+    feed_unequal a.k a.ids.now a.scores.now o c.if-ids-scores.true
 
 pub returns-then-not-room_ok : goal.returns-then-not-room_ok
 returns-then-not-room_ok c =
     let a = c.args in
     let o = outs a.out_ids.now a.out_scores.now a.counts.now in
-    feed-room a.k a.ids.now a.scores.now o c.if-ids-scores.false (sym c.room_ok.ensures ∙ c.if-not-room_ok.true)
+    feed_room a.k a.ids.now a.scores.now o c.if-ids-scores.false (sym c.room_ok.ensures ∙ c.if-not-room_ok.true)
 
 pub put_fed-requires : goal.put_fed-requires
 put_fed-requires c =
     let a = c.args in
     let r = room _ _ _ _ _ (sym c.room_ok.ensures ∙ c.if-not-room_ok.false) in
-    (feed-fits a.k a.ids.now a.scores.now _ _ _ c.feed_new-fed.ensures r.ids r.scores, r.counts)
+    (feed_fits a.k a.ids.now a.scores.now _ _ _ c.feed_new-fed.ensures r.ids r.scores, r.counts)
 
 pub returns : goal.returns
 returns c =
     let a = c.args in
     let o = outs a.out_ids.now a.out_scores.now a.counts.now in
-    feed-into a.k a.ids.now a.scores.now o _ _ c.if-ids-scores.false (sym c.room_ok.ensures ∙ c.if-not-room_ok.false) c.feed_new-fed.ensures c.put_fed.ensures
+    feed_into_lem a.k a.ids.now a.scores.now o _ _ c.if-ids-scores.false (sym c.room_ok.ensures ∙ c.if-not-room_ok.false) c.feed_new-fed.ensures c.put_fed.ensures

@@ -6,7 +6,7 @@ use mathlib.Core.Path.{◌≡◌, sym, ◌∙◌}
 use mathlib.Core.Bool.{true, false}
 use borrow.Author.Tests.{eq-eqb, ne_eqb}
 use Rattle.counting_bitmap.specs.Answers.{layers_ok, layers_fault}
-use Rattle.counting_bitmap.proofs.Checks.{shape-facts}
+use Rattle.counting_bitmap.proofs.Checks.{shape_facts}
 use Rattle.counting_bitmap.proofs.layers_fault.Goals as goal
 
 pub returns-then-not-layers_ok : goal.returns-then-not-layers_ok
@@ -17,7 +17,7 @@ returns-then-not-layers_ok c =
 
 pub overflow_mul-n : goal.overflow_mul-n
 overflow_mul-n c =
-    let s = shape-facts c.args.cap c.args.n (sym c.layers_ok.ensures ∙ c.if-not-layers_ok.false) in
+    let s = shape_facts c.args.cap c.args.n (sym c.layers_ok.ensures ∙ c.if-not-layers_ok.false) in
     let few = mul-le-mul_right (c.args.cap / 64) s.few in
     omega arith
 

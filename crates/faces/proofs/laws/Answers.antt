@@ -1,18 +1,18 @@
 -- `faces::laws`: each law is a theorem of proofs/. Assumes nothing.
 use Rattle.vector.specs.Finite.{is_finite}
-use Rattle.vector.proofs.Vectors.{every-at}
-use Rattle.faces.proofs.Answer.{one-answer}
-use Rattle.faces.proofs.First.{best-first}
-use Rattle.faces.proofs.Slots.{picked-face, slot-low, face-slot, faces-slots, picks-begin}
+use Rattle.vector.proofs.Vectors.{every_at}
+use Rattle.faces.proofs.Answer.{one_answer}
+use Rattle.faces.proofs.First.{best_first}
+use Rattle.faces.proofs.Slots.{picked_face, slot_low, face_slot_is, faces_slots, picks_begin}
 use Rattle.faces.proofs.laws.Goals as goal
 
 pub returns : goal.returns
 returns c = record {
-  one-answer = one-answer;
-  best-first = λ w h f. best-first w h.some (every-at is_finite w h.finite) f;
-  picked-face = picked-face;
-  slot-low = slot-low;
-  face-slot = face-slot;
-  faces-slots = faces-slots;
-  picks-begin = picks-begin;
+  one_answer = one_answer;
+  best_first = λ w h f. best_first w h.some (every_at is_finite w h.finite) f;
+  picked_face = picked_face;
+  slot_low = slot_low;
+  face_slot_is = face_slot_is;
+  faces_slots = faces_slots;
+  picks_begin = picks_begin;
 }

@@ -9,7 +9,7 @@ use Rattle.index_memory.proofs.Places.{place}
 use Rattle.bitmaps.specs.Walk.{NextIs}
 use Rattle.bitmaps.specs.declared.Found.TheVariants.{At, Nothing}
 use Rattle.merging.specs.Merging.{copied}
-use Rattle.merging.proofs.Loops.{copy-turn, copy-end}
+use Rattle.merging.proofs.Loops.{copy_turn, copy_end}
 use Rattle.merging.proofs.copy_present.Goals as goal
 use Rattle.merging.proofs.copy_present.Goals.{In-At}
 
@@ -18,7 +18,7 @@ unfolding copied
 loop-i-init c = (search rules, refl, refl)
 
 pub next-requires : goal.next-requires
-next-requires c = c.requires.marks-high
+next-requires c = c.requires.marks_high
 
 -- a marked id was found
 got : (c : In-At) → NextIs c.args.marks.now c.loop-i.at (At c.in-At.i)
@@ -26,8 +26,8 @@ got c = rw c.in-At.is at c.next.ensures
 
 pub overflow_mul-i : goal.overflow_mul-i
 overflow_mul-i c =
-    let low : c.in-At.i ≤ 65536 = omega (arith, (got (goal.at.overflow_mul-i c).In-At).1, c.requires.marks-high) in
-    omega (arith, mul-le-mul low c.requires.size-high)
+    let low : c.in-At.i ≤ 65536 = omega (arith, (got (goal.at.overflow_mul-i c).In-At).1, c.requires.marks_high) in
+    omega (arith, mul-le-mul low c.requires.size_high)
 
 pub copy_slot-requires : goal.copy_slot-requires
 copy_slot-requires c =
@@ -37,7 +37,7 @@ copy_slot-requires c =
     )
 
 pub overflow_add-at : goal.overflow_add-at
-overflow_add-at c = omega (arith, (got (goal.at.overflow_add-at c).In-At).1, c.requires.marks-high)
+overflow_add-at c = omega (arith, (got (goal.at.overflow_add-at c).In-At).1, c.requires.marks_high)
 
 pub loop-i-smaller : goal.loop-i-smaller
 loop-i-smaller c =
@@ -50,7 +50,7 @@ loop-i-preserved c =
     let g = got (goal.at.loop-i-preserved c).In-At in (
       omega (arith, g.1),
       c.copy_slot.auto.vectors ∙ c.loop-i.invariant.1,
-      c.copy_slot.ensures ∙ copy-turn a.size a.marks.now a.from.now a.vectors.now c.loop-i.at c.in-At.i c.loop-i.vectors g.0 g.2 g.3 c.loop-i.invariant.2,
+      c.copy_slot.ensures ∙ copy_turn a.size a.marks.now a.from.now a.vectors.now c.loop-i.at c.in-At.i c.loop-i.vectors g.0 g.2 g.3 c.loop-i.invariant.2,
     )
 
 pub shape_of-vectors-in-Nothing : goal.shape_of-vectors-in-Nothing
@@ -60,4 +60,4 @@ pub returns-in-Nothing : goal.returns-in-Nothing
 returns-in-Nothing c =
     let a = c.args in
     let n : NextIs a.marks.now c.loop-i.at Nothing = rw c.in-Nothing.is at c.next.ensures in
-    copy-end a.size a.marks.now a.from.now a.vectors.now c.loop-i.at (length a.marks.now * 64) c.loop-i.vectors c.loop-i.invariant.0 n c.loop-i.invariant.2
+    copy_end a.size a.marks.now a.from.now a.vectors.now c.loop-i.at (length a.marks.now * 64) c.loop-i.vectors c.loop-i.invariant.0 n c.loop-i.invariant.2

@@ -5,7 +5,7 @@ use native.Mathlib.Omega.{arith}
 use borrow.Author.Rules.{rules}
 use lib.ListN.{length, take, drop, length-set}
 use lib.Seq.{sets}
-use Rattle.merging.proofs.Loops.{copy-byte}
+use Rattle.merging.proofs.Loops.{copy_byte}
 use Rattle.merging.proofs.copy_slot.Goals as goal
 
 pub loop-j-init : goal.loop-j-init
@@ -33,7 +33,7 @@ pub loop-j-preserved : goal.loop-j-preserved
 loop-j-preserved c =
     let a = c.args in
     let h : a.at + c.loop-j.j < length a.from.now = omega (arith, c.requires, c.loop-j-test.true) in
-    (omega arith, simp length-set c.loop-j.invariant.1, copy-byte a.vectors.now a.from.now a.at c.loop-j.j c.loop-j.vectors h c.loop-j.invariant.2)
+    (omega arith, simp length-set c.loop-j.invariant.1, copy_byte a.vectors.now a.from.now a.at c.loop-j.j c.loop-j.vectors h c.loop-j.invariant.2)
 
 pub shape_of-vectors : goal.shape_of-vectors
 shape_of-vectors c = c.loop-j.invariant.1

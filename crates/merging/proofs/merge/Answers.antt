@@ -4,10 +4,10 @@ use mathlib.Core.Path.{◌∙◌, sym}
 use native.Mathlib.Omega.{arith}
 use native.Mathlib.Nat.{mul-le-mul}
 use Rattle.paper.specs.Geometry.{geo}
-use Rattle.paper.proofs.Geometry.{comp-le}
+use Rattle.paper.proofs.Geometry.{comp_le}
 use Rattle.index_memory.specs.Memory.{ix_of}
-use Rattle.index_memory.proofs.Lengths.{own-none}
-use Rattle.merging.proofs.Cases.{merge-first, merge-second, merge-shared, merge-done, first-sized, second-sized, copy-args}
+use Rattle.index_memory.proofs.Lengths.{own_none}
+use Rattle.merging.proofs.Cases.{merge_first, merge_second, merge_shared, merge_done, first_sized, second_sized, copy_args}
 use Rattle.merging.proofs.merge.Goals as goal
 
 pub returns-then-r-ne0 : goal.returns-then-r-ne0
@@ -16,12 +16,12 @@ returns-then-r-ne0 c =
     let g = geo a.d a.n a.cap a.mode in
     let x = ix_of a.faces.now a.marks.now a.vectors.now in
     let y = ix_of a.faces2.now a.marks2.now a.vectors2.now in
-    merge-first g x y _ c.own_refusal-r.ensures c.if-r-ne0.true
+    merge_first g x y _ c.own_refusal-r.ensures c.if-r-ne0.true
 
 pub own_lengths_ok-requires : goal.own_lengths_ok-requires
 own_lengths_ok-requires c =
-    let f = (own-none _ _ _ _ _ _ _ (sym c.own_refusal-r.ensures ∙ c.if-r-ne0.false)).facts in
-    (f.d-high, f.n-high, f.cap-high)
+    let f = (own_none _ _ _ _ _ _ _ (sym c.own_refusal-r.ensures ∙ c.if-r-ne0.false)).facts in
+    (f.d_high, f.n_high, f.cap_high)
 
 pub returns-then-not-own_lengths_ok : goal.returns-then-not-own_lengths_ok
 returns-then-not-own_lengths_ok c =
@@ -29,7 +29,7 @@ returns-then-not-own_lengths_ok c =
     let g = geo a.d a.n a.cap a.mode in
     let x = ix_of a.faces.now a.marks.now a.vectors.now in
     let y = ix_of a.faces2.now a.marks2.now a.vectors2.now in
-    merge-second g x y _ c.own_refusal-r.ensures c.if-r-ne0.false (sym c.own_lengths_ok.ensures ∙ c.if-not-own_lengths_ok.true)
+    merge_second g x y _ c.own_refusal-r.ensures c.if-r-ne0.false (sym c.own_lengths_ok.ensures ∙ c.if-not-own_lengths_ok.true)
 
 pub share_nothing-requires : goal.share_nothing-requires
 share_nothing-requires c =
@@ -37,7 +37,7 @@ share_nothing-requires c =
     let g = geo a.d a.n a.cap a.mode in
     let x = ix_of a.faces.now a.marks.now a.vectors.now in
     let y = ix_of a.faces2.now a.marks2.now a.vectors2.now in
-    (first-sized g x y _ c.own_refusal-r.ensures c.if-r-ne0.false (sym c.own_lengths_ok.ensures ∙ c.if-not-own_lengths_ok.false)).marks ∙ sym (second-sized g x y _ c.own_refusal-r.ensures c.if-r-ne0.false (sym c.own_lengths_ok.ensures ∙ c.if-not-own_lengths_ok.false)).marks
+    (first_sized g x y _ c.own_refusal-r.ensures c.if-r-ne0.false (sym c.own_lengths_ok.ensures ∙ c.if-not-own_lengths_ok.false)).marks ∙ sym (second_sized g x y _ c.own_refusal-r.ensures c.if-r-ne0.false (sym c.own_lengths_ok.ensures ∙ c.if-not-own_lengths_ok.false)).marks
 
 pub returns-then-not-share_nothing : goal.returns-then-not-share_nothing
 returns-then-not-share_nothing c =
@@ -45,7 +45,7 @@ returns-then-not-share_nothing c =
     let g = geo a.d a.n a.cap a.mode in
     let x = ix_of a.faces.now a.marks.now a.vectors.now in
     let y = ix_of a.faces2.now a.marks2.now a.vectors2.now in
-    merge-shared g x y _ c.own_refusal-r.ensures c.if-r-ne0.false (sym c.own_lengths_ok.ensures ∙ c.if-not-own_lengths_ok.false) (sym c.share_nothing.ensures ∙ c.if-not-share_nothing.true)
+    merge_shared g x y _ c.own_refusal-r.ensures c.if-r-ne0.false (sym c.own_lengths_ok.ensures ∙ c.if-not-own_lengths_ok.false) (sym c.share_nothing.ensures ∙ c.if-not-share_nothing.true)
 
 pub overflow_mul-size : goal.overflow_mul-size
 overflow_mul-size c =
@@ -53,8 +53,8 @@ overflow_mul-size c =
     let g = geo a.d a.n a.cap a.mode in
     let x = ix_of a.faces.now a.marks.now a.vectors.now in
     let y = ix_of a.faces2.now a.marks2.now a.vectors2.now in
-    let s : c.component_size.result ≤ 4 = rw c.component_size.ensures (comp-le _) in
-    omega (arith, mul-le-mul s (first-sized g x y _ c.own_refusal-r.ensures c.if-r-ne0.false (sym c.own_lengths_ok.ensures ∙ c.if-not-own_lengths_ok.false)).facts.d-high)
+    let s : c.component_size.result ≤ 4 = rw c.component_size.ensures (comp_le _) in
+    omega (arith, mul-le-mul s (first_sized g x y _ c.own_refusal-r.ensures c.if-r-ne0.false (sym c.own_lengths_ok.ensures ∙ c.if-not-own_lengths_ok.false)).facts.d_high)
 
 pub copy_present-requires : goal.copy_present-requires
 copy_present-requires c =
@@ -62,7 +62,7 @@ copy_present-requires c =
     let g = geo a.d a.n a.cap a.mode in
     let x = ix_of a.faces.now a.marks.now a.vectors.now in
     let y = ix_of a.faces2.now a.marks2.now a.vectors2.now in
-    copy-args g x y _ c.own_refusal-r.ensures c.if-r-ne0.false (sym c.own_lengths_ok.ensures ∙ c.if-not-own_lengths_ok.false) _ c.component_size.ensures
+    copy_args g x y _ c.own_refusal-r.ensures c.if-r-ne0.false (sym c.own_lengths_ok.ensures ∙ c.if-not-own_lengths_ok.false) _ c.component_size.ensures
 
 pub or-requires : goal.or-requires
 or-requires c =
@@ -70,7 +70,7 @@ or-requires c =
     let g = geo a.d a.n a.cap a.mode in
     let x = ix_of a.faces.now a.marks.now a.vectors.now in
     let y = ix_of a.faces2.now a.marks2.now a.vectors2.now in
-    (first-sized g x y _ c.own_refusal-r.ensures c.if-r-ne0.false (sym c.own_lengths_ok.ensures ∙ c.if-not-own_lengths_ok.false)).faces ∙ sym (second-sized g x y _ c.own_refusal-r.ensures c.if-r-ne0.false (sym c.own_lengths_ok.ensures ∙ c.if-not-own_lengths_ok.false)).faces
+    (first_sized g x y _ c.own_refusal-r.ensures c.if-r-ne0.false (sym c.own_lengths_ok.ensures ∙ c.if-not-own_lengths_ok.false)).faces ∙ sym (second_sized g x y _ c.own_refusal-r.ensures c.if-r-ne0.false (sym c.own_lengths_ok.ensures ∙ c.if-not-own_lengths_ok.false)).faces
 
 pub or-requires-2 : goal.or-requires-2
 or-requires-2 c =
@@ -78,7 +78,7 @@ or-requires-2 c =
     let g = geo a.d a.n a.cap a.mode in
     let x = ix_of a.faces.now a.marks.now a.vectors.now in
     let y = ix_of a.faces2.now a.marks2.now a.vectors2.now in
-    (first-sized g x y _ c.own_refusal-r.ensures c.if-r-ne0.false (sym c.own_lengths_ok.ensures ∙ c.if-not-own_lengths_ok.false)).marks ∙ sym (second-sized g x y _ c.own_refusal-r.ensures c.if-r-ne0.false (sym c.own_lengths_ok.ensures ∙ c.if-not-own_lengths_ok.false)).marks
+    (first_sized g x y _ c.own_refusal-r.ensures c.if-r-ne0.false (sym c.own_lengths_ok.ensures ∙ c.if-not-own_lengths_ok.false)).marks ∙ sym (second_sized g x y _ c.own_refusal-r.ensures c.if-r-ne0.false (sym c.own_lengths_ok.ensures ∙ c.if-not-own_lengths_ok.false)).marks
 
 pub returns : goal.returns
 returns c =
@@ -86,4 +86,4 @@ returns c =
     let g = geo a.d a.n a.cap a.mode in
     let x = ix_of a.faces.now a.marks.now a.vectors.now in
     let y = ix_of a.faces2.now a.marks2.now a.vectors2.now in
-    merge-done g x y _ c.own_refusal-r.ensures c.if-r-ne0.false (sym c.own_lengths_ok.ensures ∙ c.if-not-own_lengths_ok.false) _ _ _ _ (sym c.share_nothing.ensures ∙ c.if-not-share_nothing.false) c.or.ensures c.or-2.ensures c.component_size.ensures c.copy_present.ensures
+    merge_done g x y _ c.own_refusal-r.ensures c.if-r-ne0.false (sym c.own_lengths_ok.ensures ∙ c.if-not-own_lengths_ok.false) _ _ _ _ (sym c.share_nothing.ensures ∙ c.if-not-share_nothing.false) c.or.ensures c.or-2.ensures c.component_size.ensures c.copy_present.ensures

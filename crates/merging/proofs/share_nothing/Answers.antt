@@ -8,9 +8,9 @@ use lib.Count.{ones}
 use lib.ListN.{length, drop, get_or}
 use lib.Seq.{drop-length}
 use Rattle.bitmaps.specs.Words.{size, shared}
-use Rattle.bitmaps.proofs.Zip.{by_word-length}
+use Rattle.bitmaps.proofs.Zip.{by_word_length}
 use Rattle.bitmaps.proofs.Size.{ones_none}
-use Rattle.merging.proofs.Loops.{share-drop}
+use Rattle.merging.proofs.Loops.{share_drop}
 use Rattle.merging.proofs.share_nothing.Goals as goal
 
 pub loop-i-init : goal.loop-i-init
@@ -23,7 +23,7 @@ pub returns-then-a-i-ne0 : goal.returns-then-a-i-ne0
 returns-then-a-i-ne0 c =
     let a = c.args.a.now in
     let b = c.args.b.now in
-    let next = share-drop a b c.loop-i.i c.requires c.loop-i-test.true in
+    let next = share_drop a b c.loop-i.i c.requires c.loop-i-test.true in
     let left = c.loop-i.invariant.1 in
     sym (ne_eqb (size (shared a b)) 0 (λ e. c.if-a-i-ne0.true (ones_none (bit_and (get_or a c.loop-i.i 0) (get_or b c.loop-i.i 0)) (omega arith))))
 
@@ -32,7 +32,7 @@ unfolding ones
 loop-i-preserved c =
     let a = c.args.a.now in
     let b = c.args.b.now in
-    let next = share-drop a b c.loop-i.i c.requires c.loop-i-test.true in
+    let next = share_drop a b c.loop-i.i c.requires c.loop-i-test.true in
     let left = c.loop-i.invariant.1 in
     let none : ones (bit_and (get_or a c.loop-i.i 0) (get_or b c.loop-i.i 0)) ≡ 0 = rw c.if-a-i-ne0.false in
     (omega arith, omega arith)
@@ -42,6 +42,6 @@ unfolding size
 returns c =
     let a = c.args.a.now in
     let b = c.args.b.now in
-    let past : c.loop-i.i ≡ length (shared a b) = omega (arith, c.loop-i.invariant.0, c.loop-i-test, by_word-length bit_and a b) in
+    let past : c.loop-i.i ≡ length (shared a b) = omega (arith, c.loop-i.invariant.0, c.loop-i-test, by_word_length bit_and a b) in
     let none : size (drop c.loop-i.i (shared a b)) ≡ 0 = rw (past, drop-length) in
     sym (eq-eqb (size (shared a b)) 0 (c.loop-i.invariant.1 ∙ none))

@@ -4,7 +4,7 @@ use Prim.Native.Nat.{◌-◌}
 use mathlib.Core.Path.{refl}
 use native.Mathlib.Omega.{arith}
 use lib.ListN.{length-set}
-use Rattle.ortho.proofs.Loops.{copy_step, copy-end}
+use Rattle.ortho.proofs.Loops.{copy_step, copy_end}
 use Rattle.ortho.proofs.copy_into.Goals as goal
 
 pub loop-k-init : goal.loop-k-init
@@ -20,4 +20,4 @@ loop-k-preserved c =
     )
 
 pub returns : goal.returns
-returns c = copy-end c.args.src.now c.loop-k.out c.loop-k.k (omega arith) (omega arith) c.loop-k.invariant.2
+returns c = copy_end c.args.src.now c.loop-k.out c.loop-k.k (omega arith) (omega arith) c.loop-k.invariant.2

@@ -54,8 +54,8 @@ module _ (d r : ℕ) (xs ys : List Float) where
               done zs h = simp (le-leb 1 d A, le-leb d 1024 B, le-leb r 8 C, eq-eqb (length xs) (d * d) X, eq-eqb (length ys) (d * d) Y, F, h)
 
 -- the rounds' own answer, from the basis that was copied
-rounds-said : (d r : ℕ) (xs copied zs : List Float) (b t : Bool) → copied ≡ xs → rounds_of d r copied ≡ told b zs → b ≡ t → rounds_of d r xs ≡ told t zs
-rounds-said d r xs copied zs b t e h q = rw (← e, h, q)
+rounds_said : (d r : ℕ) (xs copied zs : List Float) (b t : Bool) → copied ≡ xs → rounds_of d r copied ≡ told b zs → b ≡ t → rounds_of d r xs ≡ told t zs
+rounds_said d r xs copied zs b t e h q = rw (← e, h, q)
 
 pub returns-then-d-lt1 : goal.returns-then-d-lt1
 returns-then-d-lt1 c =
@@ -97,7 +97,7 @@ returns-then-not-all_rounds c =
     ap (written 6) (c.clear.ensures ∙ ap (λ (k : ℕ). replicate k zero32) n)
     ∙ sixth s.d s.rounds s.basis.now s.out.now c.if-d-lt1.false c.if-d-gt1024.false c.if-rounds-gt8.false c.if-basis-n.false c.if-out-n.false
     (sym c.all_finite.ensures ∙ c.if-not-all_finite.false)
-    (rounds-said s.d s.rounds s.basis.now c.copy_into.new.out c.all_rounds.new.out c.all_rounds.result false c.copy_into.ensures c.all_rounds.ensures c.if-not-all_rounds.true)
+    (rounds_said s.d s.rounds s.basis.now c.copy_into.new.out c.all_rounds.new.out c.all_rounds.result false c.copy_into.ensures c.all_rounds.ensures c.if-not-all_rounds.true)
 
 pub returns : goal.returns
 returns c =
@@ -105,4 +105,4 @@ returns c =
     done s.d s.rounds s.basis.now s.out.now c.if-d-lt1.false c.if-d-gt1024.false c.if-rounds-gt8.false c.if-basis-n.false c.if-out-n.false
     (sym c.all_finite.ensures ∙ c.if-not-all_finite.false)
     c.all_rounds.new.out
-    (rounds-said s.d s.rounds s.basis.now c.copy_into.new.out c.all_rounds.new.out c.all_rounds.result true c.copy_into.ensures c.all_rounds.ensures c.if-not-all_rounds.false)
+    (rounds_said s.d s.rounds s.basis.now c.copy_into.new.out c.all_rounds.new.out c.all_rounds.result true c.copy_into.ensures c.all_rounds.ensures c.if-not-all_rounds.false)

@@ -4,7 +4,7 @@ use Prim.Native.Nat.{◌-◌}
 use mathlib.Core.Path.{refl, sym, ◌∙◌}
 use native.Mathlib.Nat.{sub-zero}
 use native.Mathlib.Omega.{arith}
-use Rattle.ortho.proofs.Loops.{round-fail-1, round-fail-2, round-more, round-end, row_within}
+use Rattle.ortho.proofs.Loops.{round_fail_1, round_fail_2, round_more, round_end, row_within}
 use Rattle.ortho.proofs.round.Goals as goal
 
 pub loop-i-init : goal.loop-i-init
@@ -27,7 +27,7 @@ returns-then-not-normalize_row c =
     let nr = c in
     let at = nr in
     let s = at.args in
-    sym at.loop-i.invariant.2 ∙ round-fail-1 s.d at.loop-i.i at.loop-i.out nr.loop-i-test.true nr.normalize_row.result nr.normalize_row.new.out nr.normalize_row.ensures (c.if-not-normalize_row.true)
+    sym at.loop-i.invariant.2 ∙ round_fail_1 s.d at.loop-i.i at.loop-i.out nr.loop-i-test.true nr.normalize_row.result nr.normalize_row.new.out nr.normalize_row.ensures (c.if-not-normalize_row.true)
 
 pub returns-then-not-rows : goal.returns-then-not-rows
 returns-then-not-rows c =
@@ -36,7 +36,7 @@ returns-then-not-rows c =
     let nr = one in
     let at = nr in
     let s = at.args in
-    sym at.loop-i.invariant.2 ∙ round-fail-2 s.d at.loop-i.i at.loop-i.out nr.loop-i-test.true nr.normalize_row.result nr.normalize_row.new.out nr.normalize_row.ensures rs.rows.result rs.rows.new.out rs.rows.ensures (one.if-not-normalize_row.false) (c.if-not-rows.true)
+    sym at.loop-i.invariant.2 ∙ round_fail_2 s.d at.loop-i.i at.loop-i.out nr.loop-i-test.true nr.normalize_row.result nr.normalize_row.new.out nr.normalize_row.ensures rs.rows.result rs.rows.new.out rs.rows.ensures (one.if-not-normalize_row.false) (c.if-not-rows.true)
 
 pub loop-i-preserved : goal.loop-i-preserved
 loop-i-preserved c =
@@ -47,11 +47,11 @@ loop-i-preserved c =
     let s = at.args in (
       rs.rows.auto.out ∙ nr.normalize_row.auto.out ∙ at.loop-i.invariant.0,
       search rules,
-      sym (round-more s.d at.loop-i.i at.loop-i.out nr.loop-i-test.true nr.normalize_row.result nr.normalize_row.new.out nr.normalize_row.ensures rs.rows.result rs.rows.new.out rs.rows.ensures (one.if-not-normalize_row.false) (c.if-not-rows.false)) ∙ at.loop-i.invariant.2,
+      sym (round_more s.d at.loop-i.i at.loop-i.out nr.loop-i-test.true nr.normalize_row.result nr.normalize_row.new.out nr.normalize_row.ensures rs.rows.result rs.rows.new.out rs.rows.ensures (one.if-not-normalize_row.false) (c.if-not-rows.false)) ∙ at.loop-i.invariant.2,
     )
 
 pub returns : goal.returns
 returns c =
     let at = c in
     let s = at.args in
-    sym at.loop-i.invariant.2 ∙ round-end s.d at.loop-i.i at.loop-i.out c.loop-i-test.false
+    sym at.loop-i.invariant.2 ∙ round_end s.d at.loop-i.i at.loop-i.out c.loop-i-test.false

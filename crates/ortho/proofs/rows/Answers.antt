@@ -3,7 +3,7 @@ use borrow.Author.Rules.{rules}
 use Prim.Native.Nat.{◌-◌, ◌*◌}
 use mathlib.Core.Path.{refl, sym, ◌∙◌}
 use native.Mathlib.Omega.{arith}
-use Rattle.ortho.proofs.Loops.{rows_more, rows-fail, rows_end, row_before, row_within}
+use Rattle.ortho.proofs.Loops.{rows_more, rows_fail, rows_end, row_before, row_within}
 use Rattle.ortho.proofs.rows.Goals as goal
 
 pub overflow_mul-a : goal.overflow_mul-a
@@ -29,7 +29,7 @@ returns-then-not-pair c =
     let t = c in
     let at = t in
     let s = at.args in
-    sym at.loop-j.invariant.3 ∙ rows-fail s.d s.i at.loop-j.j at.loop-j.out (s.i * s.d) refl t.loop-j-test.true t.pair.result t.pair.new.out t.pair.ensures (c.if-not-pair.true)
+    sym at.loop-j.invariant.3 ∙ rows_fail s.d s.i at.loop-j.j at.loop-j.out (s.i * s.d) refl t.loop-j-test.true t.pair.result t.pair.new.out t.pair.ensures (c.if-not-pair.true)
 
 pub loop-j-preserved : goal.loop-j-preserved
 loop-j-preserved c =

@@ -4,7 +4,7 @@ use Prim.Native.Nat.{◌/◌, ◌≤◌}
 use mathlib.Core.Path.{sym, ◌∙◌}
 use borrow.Author.Tests.{not-true, not-false}
 use Rattle.paper.specs.Geometry.{lengths_of}
-use Rattle.paper.proofs.Geometry.{geo-facts}
+use Rattle.paper.proofs.Geometry.{geo_facts}
 use Rattle.paper.proofs.lengths_for.Goals as goal
 
 pub returns-then-not-geometry_ok : goal.returns-then-not-geometry_ok
@@ -13,24 +13,24 @@ returns-then-not-geometry_ok c = simp (sym c.geometry_ok.ensures ∙ not-true _ 
 
 pub bases_len-requires : goal.bases_len-requires
 bases_len-requires c =
-    let g = geo-facts _ _ _ _ (sym c.geometry_ok.ensures ∙ not-false _ c.if-not-geometry_ok.false-raw) in
-    (g.d-high, g.n-high)
+    let g = geo_facts _ _ _ _ (sym c.geometry_ok.ensures ∙ not-false _ c.if-not-geometry_ok.false-raw) in
+    (g.d_high, g.n_high)
 
 pub face_words-requires : goal.face_words-requires
 face_words-requires c =
-    let g = geo-facts _ _ _ _ (sym c.geometry_ok.ensures ∙ not-false _ c.if-not-geometry_ok.false-raw) in
-    (g.d-high, g.n-high, g.cap-high)
+    let g = geo_facts _ _ _ _ (sym c.geometry_ok.ensures ∙ not-false _ c.if-not-geometry_ok.false-raw) in
+    (g.d_high, g.n_high, g.cap_high)
 
 pub vector_bytes-requires : goal.vector_bytes-requires
 vector_bytes-requires c =
-    let g = geo-facts _ _ _ _ (sym c.geometry_ok.ensures ∙ not-false _ c.if-not-geometry_ok.false-raw) in
-    (g.d-high, g.cap-high)
+    let g = geo_facts _ _ _ _ (sym c.geometry_ok.ensures ∙ not-false _ c.if-not-geometry_ok.false-raw) in
+    (g.d_high, g.cap_high)
 
 pub overflow_mul-result : goal.overflow_mul-result
 overflow_mul-result c =
-    let g = geo-facts _ _ _ _ (sym c.geometry_ok.ensures ∙ not-false _ c.if-not-geometry_ok.false-raw) in
+    let g = geo_facts _ _ _ _ (sym c.geometry_ok.ensures ∙ not-false _ c.if-not-geometry_ok.false-raw) in
     let w : c.args.cap / 64 ≤ 1024 = omega arith in
-    omega (arith, mul-le-mul g.n-high w)
+    omega (arith, mul-le-mul g.n_high w)
 
 pub returns : goal.returns
 unfolding lengths_of

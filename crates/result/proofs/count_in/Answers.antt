@@ -1,5 +1,5 @@
 use native.Mathlib.Omega.{arith}
-use Rattle.result.proofs.Counts.{count_yes, count_no, count-end}
+use Rattle.result.proofs.Counts.{count_yes, count_no, count_end}
 use Rattle.result.proofs.count_in.Goals as goal
 use Rattle.result.proofs.count_in.Goals.{then-ids-i, else-ids-i}
 
@@ -31,4 +31,4 @@ loop-i-preserved c =
     ]
 
 pub returns : goal.returns
-returns c = let l = c.loop-i in let a = c.args in omega (arith, count-end a.ids.now a.n l.i (omega arith) (omega arith) a.x)
+returns c = let l = c.loop-i in let a = c.args in omega (arith, count_end a.ids.now a.n l.i (omega arith) (omega arith) a.x)

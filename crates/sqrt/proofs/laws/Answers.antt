@@ -1,23 +1,23 @@
 -- `sqrt::laws`: each law is a theorem of proofs/. Assumes nothing.
-use Rattle.sqrt.proofs.Near.{sqrt-unique, nearer-above, nearer-below}
-use Rattle.sqrt.proofs.Function.{root-of, sqrt-is, root-finite}
+use Rattle.sqrt.proofs.Near.{sqrt_unique, nearer_above, nearer_below}
+use Rattle.sqrt.proofs.Function.{root_of_is, sqrt_is, root_finite}
 use Rattle.sqrt.proofs.Values.{value}
-use Rattle.sqrt.proofs.Order.{root-mono, below-root}
-use Rattle.sqrt.proofs.FloatRoot.{sign-negates, root-nearest, float-sized}
+use Rattle.sqrt.proofs.Order.{root_mono, below_root}
+use Rattle.sqrt.proofs.FloatRoot.{sign_negates, root_nearest, float_sized}
 use Rattle.sqrt.proofs.laws.Goals as goal
 
 pub returns : goal.returns
 returns c = record {
-  sqrt-unique = sqrt-unique;
-  root-of = root-of;
-  sqrt-is = sqrt-is;
+  sqrt_unique = sqrt_unique;
+  root_of_is = root_of_is;
+  sqrt_is = sqrt_is;
   value = value;
-  sign-negates = sign-negates;
-  nearer-above = nearer-above;
-  nearer-below = nearer-below;
-  root-finite = root-finite;
-  root-mono = root-mono;
-  below-root = below-root;
-  root-nearest = root-nearest;
-  float-sized = float-sized;
+  sign_negates = sign_negates;
+  nearer_above = nearer_above;
+  nearer_below = nearer_below;
+  root_finite = root_finite;
+  root_mono = root_mono;
+  below_root = below_root;
+  root_nearest = root_nearest;
+  float_sized = float_sized;
 }

@@ -2,7 +2,7 @@ use Prim.Native.Nat.{◌+◌, ◌*◌, ◌/◌, ◌^◌, ◌≤◌, ◌<◌}
 use mathlib.Core.Logic.{inl, inr}
 use native.Mathlib.Omega.{arith}
 use Rattle.sqrt.specs.Root.{Near}
-use Rattle.sqrt.proofs.Near.{Scaling, scaling-bounds, rounded-near}
+use Rattle.sqrt.proofs.Near.{Scaling, scaling_bounds, rounded_near}
 use Rattle.sqrt.proofs.rounded_root.Goals as goal
 use Rattle.sqrt.proofs.rounded_root.Goals.{Joined-h-eq0, After-whole_root-root, then-h-eq0, else-h-eq0}
 
@@ -12,12 +12,12 @@ scaling c = elim c.if-h-eq0.branch [ then-h-eq0 w ↦ inl (w.if-h-eq0.true, w.sc
 
 pub whole_root-root-requires : goal.whole_root-root-requires
 whole_root-root-requires c =
-    omega (arith, scaling-bounds c.args.m c.args.h c.if-h-eq0.scaled (omega arith) (omega arith) (scaling (goal.at.whole_root-root-requires c).Joined-h-eq0))
+    omega (arith, scaling_bounds c.args.m c.args.h c.if-h-eq0.scaled (omega arith) (omega arith) (scaling (goal.at.whole_root-root-requires c).Joined-h-eq0))
 
 -- after the call: the root's bounds, and what is to be returned
 near : (c : After-whole_root-root) → (16777216 ≤ c.whole_root-root.result) × (c.whole_root-root.result + 1 < 33554432) × Near (c.args.m * 2 ^ (c.args.h + 24)) ((c.args.h + 1) / 2 * 8388608 + (c.whole_root-root.result + 1) / 2)
 near c =
-    rounded-near c.args.m c.args.h c.if-h-eq0.scaled (omega arith) (omega arith) (scaling c.before) c.whole_root-root.result
+    rounded_near c.args.m c.args.h c.if-h-eq0.scaled (omega arith) (omega arith) (scaling c.before) c.whole_root-root.result
     c.whole_root-root.ensures.0 c.whole_root-root.ensures.1
 
 pub overflow_add-half : goal.overflow_add-half

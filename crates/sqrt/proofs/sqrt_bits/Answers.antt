@@ -3,7 +3,7 @@ use Prim.Native.Nat.{ℕ, ◌+◌, ◌-◌, ◌*◌, ◌/◌, ◌%◌, ◌^◌, 
 use mathlib.Core.Path.{◌≡◌, refl, sym, ap, ◌∙◌}
 use native.Mathlib.Omega.{arith}
 use lib.Count.{count_leading_zeros}
-use Rattle.sqrt.proofs.Near.{is_zero, is-infinity, is-invalid, is-root, normal, subnormal, Shifted, shift-up}
+use Rattle.sqrt.proofs.Near.{is_zero, is_infinity, is_invalid, is_root, normal, subnormal, Shifted, shift_up}
 use Rattle.sqrt.proofs.sqrt_bits.Goals as goal
 use Rattle.sqrt.proofs.sqrt_bits.Goals.{Else-bits-ge-SIGN}
 
@@ -15,11 +15,11 @@ returns-then-digits-eq0 c =
 pub returns-then-bits-ge-SIGN : goal.returns-then-bits-ge-SIGN
 returns-then-bits-ge-SIGN c =
     let b = c.args.bits in
-    is-invalid b (omega arith) (λ e. c.if-digits-eq0.false (omega arith)) (omega arith)
+    is_invalid b (omega arith) (λ e. c.if-digits-eq0.false (omega arith)) (omega arith)
 
 -- the shift of a subnormal pattern
 shifted : (c : Else-bits-ge-SIGN) → Shifted (c.args.bits % 8388608) (count_leading_zeros 32 (c.args.bits % 8388608))
-shifted c = shift-up (c.args.bits % 8388608) (omega arith) (omega arith)
+shifted c = shift_up (c.args.bits % 8388608) (omega arith) (omega arith)
 
 pub overflow_sub-shift : goal.overflow_sub-shift
 overflow_sub-shift c = omega (arith, (shifted (goal.at.overflow_sub-shift c).Else-bits-ge-SIGN).least)
@@ -36,12 +36,12 @@ rounded_root-requires c = omega (arith, shifted (goal.at.rounded_root-requires c
 pub returns-then-bits-eq-INFINITY : goal.returns-then-bits-eq-INFINITY
 returns-then-bits-eq-INFINITY c =
     let b = c.args.bits in
-    is-infinity b c.if-bits-eq-INFINITY.true
+    is_infinity b c.if-bits-eq-INFINITY.true
 
 pub returns-then-bits-ge-SIGN-2 : goal.returns-then-bits-ge-SIGN-2
 returns-then-bits-ge-SIGN-2 c =
     let b = c.args.bits in
-    is-invalid b (omega arith) (λ e. omega arith) (omega arith)
+    is_invalid b (omega arith) (λ e. omega arith) (omega arith)
 
 unshifted : (x : ℕ) → x < 16777216 → x ≡ x % 4294967296
 unshifted x h = omega arith
@@ -52,18 +52,18 @@ returns-else-bits-ge-SIGN c =
     let t = b % 8388608 in
     let z = count_leading_zeros 32 t in
     let s = shifted (goal.at.returns-else-bits-ge-SIGN c).Else-bits-ge-SIGN in
-    is-root b _ c.rounded_root.result (omega arith) (omega arith)
+    is_root b _ c.rounded_root.result (omega arith) (omega arith)
     (ap (λ (x : ℕ). x * 2 ^ 149) (subnormal b t (omega arith) refl) ∙ sym s.same ∙ ap (λ (x : ℕ). x * 2 ^ (125 - (z - 8) + 24)) (unshifted (t * 2 ^ (z - 8)) s.small))
     c.rounded_root.ensures.0 c.rounded_root.ensures.1
 
 pub returns-else-bits-eq-INFINITY : goal.returns-else-bits-eq-INFINITY
 returns-else-bits-eq-INFINITY c =
     let b = c.args.bits in
-    is-invalid b (omega arith) (λ e. c.if-bits-eq-INFINITY.false (omega arith)) (omega arith)
+    is_invalid b (omega arith) (λ e. c.if-bits-eq-INFINITY.false (omega arith)) (omega arith)
 
 pub returns-else-bits-ge-SIGN-2 : goal.returns-else-bits-ge-SIGN-2
 returns-else-bits-ge-SIGN-2 c =
     let b = c.args.bits in
-    is-root b _ c.rounded_root-in-1-to-254.result (omega arith) (omega arith)
+    is_root b _ c.rounded_root-in-1-to-254.result (omega arith) (omega arith)
     (normal b (b / 8388608 % 256) (b % 8388608) (omega arith) refl (omega arith))
     c.rounded_root-in-1-to-254.ensures.0 c.rounded_root-in-1-to-254.ensures.1

@@ -1,7 +1,7 @@
 use Prim.Native.Nat.{ℕ, ◌+◌, ◌*◌, ◌/◌, ◌<◌}
 use mathlib.Core.Path.{◌≡◌}
 use native.Mathlib.Omega.{arith}
-use Rattle.sqrt.proofs.Near.{small-square}
+use Rattle.sqrt.proofs.Near.{small_square}
 use Rattle.sqrt.proofs.whole_root.Goals as goal
 
 pub loop-hi-init : goal.loop-hi-init
@@ -14,7 +14,7 @@ pub overflow_add-mid : goal.overflow_add-mid
 overflow_add-mid c = omega arith
 
 pub overflow_mul-mid : goal.overflow_mul-mid
-overflow_mul-mid c = omega (arith, small-square ((c.loop-hi.lo + c.loop-hi.hi) / 2) (omega arith))
+overflow_mul-mid c = omega (arith, small_square ((c.loop-hi.lo + c.loop-hi.hi) / 2) (omega arith))
 
 pub loop-hi-smaller-then-mid-a : goal.loop-hi-smaller-then-mid-a
 loop-hi-smaller-then-mid-a c = omega arith

@@ -2,11 +2,11 @@
 use borrow.Author.Tests.{ne_eqb, eq-eqb}
 use mathlib.Core.Path.{refl, ◌∙◌, ap}
 use Rattle.sqrt.specs.RootOf.{root}
-use Rattle.vector.proofs.Answer.{said-value, said-refusal}
+use Rattle.vector.proofs.Answer.{said_value, said_refusal}
 use Rattle.vector.proofs.distance.Goals as goal
 
 pub returns-then-vec-other : goal.returns-then-vec-other
-returns-then-vec-other c = said-refusal _ 2 _ (ne_eqb _ _ c.if-vec-other.true) refl
+returns-then-vec-other c = said_refusal _ 2 _ (ne_eqb _ _ c.if-vec-other.true) refl
 
 pub returns : goal.returns
-returns c = said-value _ 2 _ _ (eq-eqb _ _ c.if-vec-other.false) (c.sqrt.ensures ∙ ap root c.squares_of.ensures)
+returns c = said_value _ 2 _ _ (eq-eqb _ _ c.if-vec-other.false) (c.sqrt.ensures ∙ ap root c.squares_of.ensures)

@@ -3,7 +3,7 @@ use borrow.Author.Rules.{rules}
 use mathlib.Core.Path.{refl, sym, ◌∙◌}
 use native.Mathlib.Omega.{arith}
 use lib.ListN.{length-set}
-use Rattle.vector.proofs.Vectors.{map-step, map-end}
+use Rattle.vector.proofs.Vectors.{map_step, map_end}
 use Rattle.vector.proofs.divide_all.Invariants.{by}
 use Rattle.vector.proofs.divide_all.Goals as goal
 
@@ -14,8 +14,8 @@ pub loop-i-preserved : goal.loop-i-preserved
 loop-i-preserved c = (
   simp length-set c.loop-i.invariant.0,
   simp length-set (omega arith),
-  map-step (by c.args.norm) c.loop-i.vec c.loop-i.i c.loop-i-test.true ∙ c.loop-i.invariant.2,
+  map_step (by c.args.norm) c.loop-i.vec c.loop-i.i c.loop-i-test.true ∙ c.loop-i.invariant.2,
 )
 
 pub returns : goal.returns
-returns c = sym (map-end (by c.args.norm) _ c.loop-i.i c.loop-i-test.false) ∙ c.loop-i.invariant.2
+returns c = sym (map_end (by c.args.norm) _ c.loop-i.i c.loop-i-test.false) ∙ c.loop-i.invariant.2

@@ -2,25 +2,25 @@
 use mathlib.Core.Path.{◌≡◌, refl}
 use mathlib.Core.List.{[]}
 use Rattle.sqrt.specs.RootOf.{root}
-use Rattle.sqrt.proofs.Floats.{root-zero}
+use Rattle.sqrt.proofs.Floats.{root_zero}
 use Rattle.vector.specs.Fold.{fold2, zero32, dot_of, squares_of}
-use Rattle.vector.proofs.Answer.{one-answer}
-use Rattle.vector.proofs.Vectors.{length-normalized, finite-normalized}
+use Rattle.vector.proofs.Answer.{one_answer}
+use Rattle.vector.proofs.Vectors.{length_normalized, finite_normalized}
 use Rattle.vector.proofs.laws.Goals as goal
 
-dot-of-none : dot_of [] [] ≡ zero32
+dot_of_none : dot_of [] [] ≡ zero32
 unfolding dot_of fold2
-dot-of-none = refl
+dot_of_none = refl
 
-distance-of-none : root (squares_of [] []) ≡ zero32
+distance_of_none : root (squares_of [] []) ≡ zero32
 unfolding squares_of fold2
-distance-of-none = root-zero
+distance_of_none = root_zero
 
 pub returns : goal.returns
 returns c = record {
-  one-answer = one-answer;
-  dot-of-none = dot-of-none;
-  distance-of-none = distance-of-none;
-  length-normalized = length-normalized;
-  finite-normalized = finite-normalized;
+  one_answer = one_answer;
+  dot_of_none = dot_of_none;
+  distance_of_none = distance_of_none;
+  length_normalized = length_normalized;
+  finite_normalized = finite_normalized;
 }

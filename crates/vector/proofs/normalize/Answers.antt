@@ -9,9 +9,9 @@ use Rattle.vector.specs.Finite.{is_finite, all_finite}
 use Rattle.vector.specs.Norm.{Normal, normal, norm_of, norm_number, normalized, divided_by, all_finite_by}
 use Rattle.vector.proofs.normalize.Goals as goal
 
-norm-is : (xs : List Float) (d n : Float) → d ≡ dot_of xs xs → n ≡ root d → n ≡ norm_of xs
+norm_is : (xs : List Float) (d n : Float) → d ≡ dot_of xs xs → n ≡ root d → n ≡ norm_of xs
 unfolding norm_of
-norm-is xs d n p q = q ∙ ap root p
+norm_is xs d n p q = q ∙ ap root p
 
 -- what each way through the code has found, and what is promised then
 module _ (xs : List Float) where
@@ -23,19 +23,19 @@ module _ (xs : List Float) where
   not_finite h = simp h
 
   module _ (h : all_finite xs ≡ true) (n : Float) (N : n ≡ norm_of xs) where
-    norm-not-finite : is_finite n ≡ false → normal 6 xs ≡ outcome
+    norm_not_finite : is_finite n ≡ false → normal 6 xs ≡ outcome
     unfolding norm_number normalized
-    norm-not-finite g = simp (h, ← N, g)
+    norm_not_finite g = simp (h, ← N, g)
 
     module _ (g : is_finite n ≡ true) where
-      norm-zero : eq n zero32 ≡ true → normal 6 xs ≡ outcome
+      norm_zero : eq n zero32 ≡ true → normal 6 xs ≡ outcome
       unfolding norm_number normalized
-      norm-zero z = simp (h, ← N, g, z)
+      norm_zero z = simp (h, ← N, g, z)
 
       module _ (z : eq n zero32 ≡ false) where
-        quotient-not-finite : all_finite_by n xs ≡ false → normal 6 xs ≡ outcome
+        quotient_not_finite : all_finite_by n xs ≡ false → normal 6 xs ≡ outcome
         unfolding norm_number normalized
-        quotient-not-finite q = simp (h, ← N, g, z, q)
+        quotient_not_finite q = simp (h, ← N, g, z, q)
 
         accepted : (ys : List Float) → all_finite_by n xs ≡ true → ys ≡ divided_by n xs → normal 0 ys ≡ outcome
         unfolding norm_number normalized
@@ -46,16 +46,16 @@ returns-then-not-all_finite c = not_finite c.args.vec.now (sym c.all_finite.ensu
 
 pub returns-then-not-is_finite : goal.returns-then-not-is_finite
 returns-then-not-is_finite c =
-    norm-not-finite c.args.vec.now (sym c.all_finite.ensures ∙ c.if-not-all_finite.false) _ (norm-is c.args.vec.now _ _ c.dot_of.ensures c.sqrt-norm.ensures) (sym c.is_finite.ensures ∙ c.if-not-is_finite.true)
+    norm_not_finite c.args.vec.now (sym c.all_finite.ensures ∙ c.if-not-all_finite.false) _ (norm_is c.args.vec.now _ _ c.dot_of.ensures c.sqrt-norm.ensures) (sym c.is_finite.ensures ∙ c.if-not-is_finite.true)
 
 pub returns-then-norm : goal.returns-then-norm
 returns-then-norm c =
-    norm-zero c.args.vec.now (sym c.all_finite.ensures ∙ c.if-not-all_finite.false) _ (norm-is c.args.vec.now _ _ c.dot_of.ensures c.sqrt-norm.ensures) (sym c.is_finite.ensures ∙ c.if-not-is_finite.false) c.if-norm.true
+    norm_zero c.args.vec.now (sym c.all_finite.ensures ∙ c.if-not-all_finite.false) _ (norm_is c.args.vec.now _ _ c.dot_of.ensures c.sqrt-norm.ensures) (sym c.is_finite.ensures ∙ c.if-not-is_finite.false) c.if-norm.true
 
 pub returns-then-not-quotients_finite : goal.returns-then-not-quotients_finite
 returns-then-not-quotients_finite c =
-    quotient-not-finite c.args.vec.now (sym c.all_finite.ensures ∙ c.if-not-all_finite.false) _ (norm-is c.args.vec.now _ _ c.dot_of.ensures c.sqrt-norm.ensures) (sym c.is_finite.ensures ∙ c.if-not-is_finite.false) c.if-norm.false (sym c.quotients_finite.ensures ∙ c.if-not-quotients_finite.true)
+    quotient_not_finite c.args.vec.now (sym c.all_finite.ensures ∙ c.if-not-all_finite.false) _ (norm_is c.args.vec.now _ _ c.dot_of.ensures c.sqrt-norm.ensures) (sym c.is_finite.ensures ∙ c.if-not-is_finite.false) c.if-norm.false (sym c.quotients_finite.ensures ∙ c.if-not-quotients_finite.true)
 
 pub returns : goal.returns
 returns c =
-    accepted c.args.vec.now (sym c.all_finite.ensures ∙ c.if-not-all_finite.false) _ (norm-is c.args.vec.now _ _ c.dot_of.ensures c.sqrt-norm.ensures) (sym c.is_finite.ensures ∙ c.if-not-is_finite.false) c.if-norm.false _ (sym c.quotients_finite.ensures ∙ c.if-not-quotients_finite.false) c.divide_all.ensures
+    accepted c.args.vec.now (sym c.all_finite.ensures ∙ c.if-not-all_finite.false) _ (norm_is c.args.vec.now _ _ c.dot_of.ensures c.sqrt-norm.ensures) (sym c.is_finite.ensures ∙ c.if-not-is_finite.false) c.if-norm.false _ (sym c.quotients_finite.ensures ∙ c.if-not-quotients_finite.false) c.divide_all.ensures

@@ -2,7 +2,7 @@
 use borrow.Author.Rules.{rules}
 use mathlib.Core.Path.{refl, sym, ◌∙◌}
 use native.Mathlib.Omega.{arith}
-use Rattle.vector.proofs.Vectors.{every-yes, every-no, every-end}
+use Rattle.vector.proofs.Vectors.{every_yes, every_no, every_end}
 use Rattle.vector.proofs.quotients_finite.Invariants.{good}
 use Rattle.vector.proofs.quotients_finite.Goals as goal
 
@@ -11,11 +11,11 @@ loop-i-init c = (search rules, refl)
 
 pub returns-then-not-is_finite : goal.returns-then-not-is_finite
 returns-then-not-is_finite c =
-    sym (every-no (good c.args.norm) c.args.vec.now c.loop-i.i (omega arith) (sym c.is_finite.ensures ∙ c.if-not-is_finite.true)) ∙ c.loop-i.invariant.1
+    sym (every_no (good c.args.norm) c.args.vec.now c.loop-i.i (omega arith) (sym c.is_finite.ensures ∙ c.if-not-is_finite.true)) ∙ c.loop-i.invariant.1
 
 pub loop-i-preserved : goal.loop-i-preserved
 loop-i-preserved c =
-    (search rules, sym (every-yes (good c.args.norm) c.args.vec.now c.loop-i.i (omega arith) (sym c.is_finite.ensures ∙ c.if-not-is_finite.false)) ∙ c.loop-i.invariant.1)
+    (search rules, sym (every_yes (good c.args.norm) c.args.vec.now c.loop-i.i (omega arith) (sym c.is_finite.ensures ∙ c.if-not-is_finite.false)) ∙ c.loop-i.invariant.1)
 
 pub returns : goal.returns
-returns c = sym (every-end (good c.args.norm) _ c.loop-i.i c.loop-i-test.false) ∙ c.loop-i.invariant.1
+returns c = sym (every_end (good c.args.norm) _ c.loop-i.i c.loop-i-test.false) ∙ c.loop-i.invariant.1

@@ -7,7 +7,7 @@ use lib.Ieee.{of_bits, lt, eq, neg, is_nan, nan_bits}
 use Rattle.paper.specs.Geometry.{cap_ok}
 use Rattle.sqrt.specs.Root.{Sqrt}
 use Rattle.sqrt.specs.RootOf.{root_of}
-use Rattle.sqrt.proofs.Function.{root-of}
+use Rattle.sqrt.proofs.Function.{root_of_is}
 use Rattle.quantization.specs.Bf16.{lowered}
 use Rattle.vector.specs.Finite.{every}
 use Rattle.faces.specs.Best.{beats, first_from, best_of}
@@ -25,7 +25,7 @@ use Rattle.worked_examples.proofs.laws.Goals as goal
 
 -- `root_of` computes, and what it gives is the root
 rooted : (b q : ℕ) → b < 0x1_0000_0000 → root_of b ≡ q → Sqrt b q
-rooted b q h e = subst (Sqrt b) e (root-of b h)
+rooted b q h e = subst (Sqrt b) e (root_of_is b h)
 
 hold : All examples
 unfolding root_of lowered nan_bits face_number face_of spill_of faces_of picked_of after_of picks_of best_of first_from every beats lt eq neg of_bits is_nan merged_all merged by_word ids_in merge_fault layers_fault layers_ok cap_ok top_of size ones fed
@@ -72,4 +72,4 @@ hold = (
 )
 
 pub returns : goal.returns
-returns c = record { examples-hold = hold }
+returns c = record { examples_hold = hold }

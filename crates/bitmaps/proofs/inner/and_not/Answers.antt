@@ -4,7 +4,7 @@ use native.Mathlib.Omega.{arith}
 use borrow.Author.Rules.{rules}
 use lib.ListN.{length, length-set}
 use Rattle.bitmaps.specs.Words.{word_but}
-use Rattle.bitmaps.proofs.Zip.{by_word_to, by_word_to-more, by_word_to-all}
+use Rattle.bitmaps.proofs.Zip.{by_word_to, by_word_to_more, by_word_to_all}
 use Rattle.bitmaps.proofs.inner.and_not.Goals as goal
 
 pub loop-i-init : goal.loop-i-init
@@ -15,10 +15,10 @@ pub loop-i-preserved : goal.loop-i-preserved
 loop-i-preserved c = (
   omega arith,
   simp length-set (omega arith),
-  rw c.loop-i.invariant.2 (by_word_to-more word_but _ _ _ (omega arith) (omega arith)),
+  rw c.loop-i.invariant.2 (by_word_to_more word_but _ _ _ (omega arith) (omega arith)),
 )
 
 pub returns : goal.returns
 returns c =
     let past : c.loop-i.i ≡ length c.args.a.now = omega arith in
-    c.loop-i.invariant.2 ∙ rw past (by_word_to-all word_but _ _)
+    c.loop-i.invariant.2 ∙ rw past (by_word_to_all word_but _ _)

@@ -5,7 +5,7 @@ use lib.ListN.{length, drop}
 use lib.Seq.{drop-length}
 use lib.Count.{ones-le}
 use Rattle.bitmaps.specs.Words.{size}
-use Rattle.bitmaps.proofs.Size.{size-drop}
+use Rattle.bitmaps.proofs.Size.{size_drop}
 use Rattle.bitmaps.proofs.inner.count.Goals as goal
 
 pub overflow_add-n : goal.overflow_add-n
@@ -18,7 +18,7 @@ loop-word-preserved c =
     let i = c.loop-word.word in
     let a = c.args.a.now in
     let few = ones-le 64 _ (c.type_inv.a i).fits in
-    let next = size-drop a i c.loop-word-test.true in
+    let next = size_drop a i c.loop-word-test.true in
     (omega arith, omega arith, omega arith)
 
 pub returns : goal.returns

@@ -6,7 +6,7 @@ use borrow.Author.Rules.{rules}
 use lib.ListN.{get_or}
 use mathlib.Core.Logic.{⊎_elim}
 use Rattle.bitmaps.proofs.Digits.{Words}
-use Rattle.bitmaps.proofs.Rising.{le-or-lt, inside, found, before, bare, past_end}
+use Rattle.bitmaps.proofs.Rising.{le_or_lt, inside, found, before, bare, past_end}
 use Rattle.bitmaps.proofs.inner.next.Goals as goal
 
 pub returns-then-a-q : goal.returns-then-a-q
@@ -104,7 +104,7 @@ returns-then-x-ne0 c =
           ⊎_elim
           (λ (g : q * 64 ≤ j). before a q 0 x w (omega arith) e p j (omega arith) (omega arith))
           (λ (g : j < q * 64). c.loop-q.invariant.2 j l g)
-          (le-or-lt (q * 64) j),
+          (le_or_lt (q * 64) j),
     )
 
 pub loop-q-preserved : goal.loop-q-preserved
@@ -120,7 +120,7 @@ loop-q-preserved c =
           ⊎_elim
           (λ (g : q * 64 ≤ j). bare a q 0 (get_or a q 0) w (omega arith) e c.if-x-ne0.false j (omega arith) (omega arith))
           (λ (g : j < q * 64). c.loop-q.invariant.2 j l g)
-          (le-or-lt (q * 64) j),
+          (le_or_lt (q * 64) j),
     )
 
 pub returns : goal.returns
@@ -128,4 +128,4 @@ returns c = λ j l.
     ⊎_elim
     (λ (g : c.loop-q.q * 64 ≤ j). past_end c.args.a.now j (omega arith))
     (λ (g : j < c.loop-q.q * 64). c.loop-q.invariant.2 j l g)
-    (le-or-lt (c.loop-q.q * 64) j)
+    (le_or_lt (c.loop-q.q * 64) j)

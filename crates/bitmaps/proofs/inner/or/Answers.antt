@@ -4,7 +4,7 @@ use native.Mathlib.Omega.{arith}
 use borrow.Author.Rules.{rules}
 use lib.ListN.{length, length-set}
 use lib.Bits.{bit_or}
-use Rattle.bitmaps.proofs.Zip.{by_word_to, by_word_to-more, by_word_to-all}
+use Rattle.bitmaps.proofs.Zip.{by_word_to, by_word_to_more, by_word_to_all}
 use Rattle.bitmaps.proofs.inner.or.Goals as goal
 
 pub loop-i-init : goal.loop-i-init
@@ -15,10 +15,10 @@ pub loop-i-preserved : goal.loop-i-preserved
 loop-i-preserved c = (
   omega arith,
   simp length-set (omega arith),
-  rw c.loop-i.invariant.2 (by_word_to-more bit_or _ _ _ (omega arith) (omega arith)),
+  rw c.loop-i.invariant.2 (by_word_to_more bit_or _ _ _ (omega arith) (omega arith)),
 )
 
 pub returns : goal.returns
 returns c =
     let past : c.loop-i.i ≡ length c.args.a.now = omega arith in
-    c.loop-i.invariant.2 ∙ rw past (by_word_to-all bit_or _ _)
+    c.loop-i.invariant.2 ∙ rw past (by_word_to_all bit_or _ _)

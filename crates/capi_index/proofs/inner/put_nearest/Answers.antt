@@ -1,11 +1,11 @@
 -- `capi_index::inner::put_nearest` meets its contract. Assumes nothing.
 use native.Mathlib.Omega.{arith}
 use Rattle.capi_sets.specs.Lists.{outs}
-use Rattle.capi_index.proofs.Cases.{nearest-kept, nearest-laid}
+use Rattle.capi_index.proofs.Cases.{nearest_kept, nearest_laid}
 use Rattle.capi_index.proofs.inner.put_nearest.Goals as goal
 
 pub returns-then-nearest-ne0 : goal.returns-then-nearest-ne0
-returns-then-nearest-ne0 c = let a = c.args in nearest-kept a.nearest (outs a.ids.now a.scores.now a.counts.now) c.if-nearest-ne0.true
+returns-then-nearest-ne0 c = let a = c.args in nearest_kept a.nearest (outs a.ids.now a.scores.now a.counts.now) c.if-nearest-ne0.true
 
 pub copy_ids-requires : goal.copy_ids-requires
 copy_ids-requires c =
@@ -32,4 +32,4 @@ shape_of-counts c = c.tell_three.auto.counts
 pub returns : goal.returns
 returns c =
     let a = c.args in
-    nearest-laid a.nearest (outs a.ids.now a.scores.now a.counts.now) _ _ _ c.if-nearest-ne0.false c.copy_ids.ensures c.copy_scores.ensures c.tell_three.ensures
+    nearest_laid a.nearest (outs a.ids.now a.scores.now a.counts.now) _ _ _ c.if-nearest-ne0.false c.copy_ids.ensures c.copy_scores.ensures c.tell_three.ensures

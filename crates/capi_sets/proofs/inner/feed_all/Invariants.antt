@@ -6,7 +6,7 @@ use borrow.Author.Rules.{rules}
 use lib.ListN.{length}
 use Rattle.result.specs.Places.{entries}
 use Rattle.result.specs.Sets.{feed_all_of}
-use Rattle.capi_sets.proofs.Feeds.{rest, feed-ends, feed-goes, feed-over}
+use Rattle.capi_sets.proofs.Feeds.{rest, feed_ends, feed_goes, feed_over}
 use Rattle.capi_sets.proofs.inner.feed_all.Given as goal
 
 abbrev pub invariant-loop-i : goal.invariant-loop-i

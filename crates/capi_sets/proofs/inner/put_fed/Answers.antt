@@ -1,11 +1,11 @@
 -- `capi_sets::inner::put_fed` meets its contract. Assumes nothing.
 use native.Mathlib.Omega.{arith}
 use Rattle.capi_sets.specs.Lists.{outs}
-use Rattle.capi_sets.proofs.Lists.{fed-kept, fed-laid}
+use Rattle.capi_sets.proofs.Lists.{fed_kept, fed_laid}
 use Rattle.capi_sets.proofs.inner.put_fed.Goals as goal
 
 pub returns-then-fed-ne0 : goal.returns-then-fed-ne0
-returns-then-fed-ne0 c = let a = c.args in fed-kept a.fed (outs a.ids.now a.scores.now a.counts.now) c.if-fed-ne0.true
+returns-then-fed-ne0 c = let a = c.args in fed_kept a.fed (outs a.ids.now a.scores.now a.counts.now) c.if-fed-ne0.true
 
 pub copy_ids-requires : goal.copy_ids-requires
 copy_ids-requires c =
@@ -23,4 +23,4 @@ overflow_cast-len c = omega (arith, (c.requires.0 c.if-fed-ne0.false).small)
 pub returns : goal.returns
 returns c =
     let a = c.args in
-    fed-laid a.fed (outs a.ids.now a.scores.now a.counts.now) _ _ _ c.if-fed-ne0.false c.copy_ids.ensures c.copy_scores.ensures c.tell_two.ensures
+    fed_laid a.fed (outs a.ids.now a.scores.now a.counts.now) _ _ _ c.if-fed-ne0.false c.copy_ids.ensures c.copy_scores.ensures c.tell_two.ensures

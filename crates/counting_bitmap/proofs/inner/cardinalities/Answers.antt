@@ -6,7 +6,7 @@ use native.Mathlib.Nat.{mul-le-mul_right}
 use native.Mathlib.Omega.{arith}
 use lib.ListN.{length-take, length-set}
 use Rattle.counting_bitmap.specs.Layers.{counts_of}
-use Rattle.counting_bitmap.proofs.Places.{counts-turn}
+use Rattle.counting_bitmap.proofs.Places.{counts_turn}
 use Rattle.counting_bitmap.proofs.inner.cardinalities.Goals as goal
 use Rattle.counting_bitmap.proofs.inner.cardinalities.Goals.{In-loop-i}
 
@@ -39,7 +39,7 @@ loop-i-preserved c =
       omega arith,
       omega arith,
       simp length-set (omega arith),
-      counts-turn l.i c.args.w l.at c.args.layers.now l.counts c.count.result (omega arith) l.invariant.1 l.invariant.3 c.count.ensures,
+      counts_turn l.i c.args.w l.at c.args.layers.now l.counts c.count.result (omega arith) l.invariant.1 l.invariant.3 c.count.ensures,
     )
 
 pub returns : goal.returns

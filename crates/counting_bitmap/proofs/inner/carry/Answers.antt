@@ -9,9 +9,9 @@ use lib.ListN.{length, take, length-set}
 use lib.Seq.{take-length}
 use lib.Bits.{bit_and, bit_or}
 use Rattle.bitmaps.specs.Words.{size, is_empty, shared}
-use Rattle.bitmaps.proofs.Digits.{by_word-at}
-use Rattle.bitmaps.proofs.Zip.{by_word_to, by_word_to-at, by_word_to-suc, by_word_to-all, by_word-length, by_word-flip}
-use Rattle.counting_bitmap.proofs.Stop.{any-more}
+use Rattle.bitmaps.proofs.Digits.{by_word_at}
+use Rattle.bitmaps.proofs.Zip.{by_word_to, by_word_to_at, by_word_to_suc, by_word_to_all, by_word_length, by_word_flip}
+use Rattle.counting_bitmap.proofs.Stop.{any_more}
 use Rattle.counting_bitmap.proofs.inner.carry.Invariants.{flipped}
 use Rattle.counting_bitmap.proofs.inner.carry.Goals as goal
 
@@ -27,14 +27,14 @@ loop-i-preserved c =
     let a : l.i < length ls = omega arith in
     let d : l.i < length cs = omega arith in
     let same : length ls ≡ length cs = c.requires in
-    let long : l.i < length (shared ls cs) = rw (by_word-length bit_and ls cs) a in (
+    let long : l.i < length (shared ls cs) = rw (by_word_length bit_and ls cs) a in (
       omega arith,
       simp length-set (omega arith),
       simp length-set (omega arith),
-      rw (l.invariant.3, l.invariant.4, by_word_to-at bit_or l.i ls cs, by_word_to-at flipped l.i cs ls, add-one) (by_word_to-suc bit_or l.i ls cs a d),
-      rw (l.invariant.3, l.invariant.4, by_word_to-at bit_or l.i ls cs, by_word_to-at flipped l.i cs ls, add-one) (by_word_to-suc flipped l.i cs ls d a),
-      any-more l.any l.i _ (shared ls cs) long
-          (rw (l.invariant.3, l.invariant.4, by_word_to-at bit_or l.i ls cs, by_word_to-at flipped l.i cs ls) (sym (by_word-at bit_and refl ls cs same l.i)))
+      rw (l.invariant.3, l.invariant.4, by_word_to_at bit_or l.i ls cs, by_word_to_at flipped l.i cs ls, add-one) (by_word_to_suc bit_or l.i ls cs a d),
+      rw (l.invariant.3, l.invariant.4, by_word_to_at bit_or l.i ls cs, by_word_to_at flipped l.i cs ls, add-one) (by_word_to_suc flipped l.i cs ls d a),
+      any_more l.any l.i _ (shared ls cs) long
+          (rw (l.invariant.3, l.invariant.4, by_word_to_at bit_or l.i ls cs, by_word_to_at flipped l.i cs ls) (sym (by_word_at bit_and refl ls cs same l.i)))
           l.invariant.5,
     )
 
@@ -46,9 +46,9 @@ returns c =
     let same : length ls ≡ length cs = c.requires in
     let past : l.i ≡ length ls = omega arith in
     let past' : l.i ≡ length cs = omega arith in
-    let whole : take l.i (shared ls cs) ≡ shared ls cs = rw (past ∙ sym (by_word-length bit_and ls cs)) (take-length (shared ls cs)) in
+    let whole : take l.i (shared ls cs) ≡ shared ls cs = rw (past ∙ sym (by_word_length bit_and ls cs)) (take-length (shared ls cs)) in
     record {
-      united = l.invariant.3 ∙ rw past (by_word_to-all bit_or ls cs);
-      carry = l.invariant.4 ∙ rw past' (by_word_to-all flipped cs ls) ∙ by_word-flip bit_and ls cs same;
+      united = l.invariant.3 ∙ rw past (by_word_to_all bit_or ls cs);
+      carry = l.invariant.4 ∙ rw past' (by_word_to_all flipped cs ls) ∙ by_word_flip bit_and ls cs same;
       some = ap not (l.invariant.5 ∙ ap is_empty whole);
     }

@@ -4,7 +4,7 @@ use mathlib.Core.Path.{◌≡◌, refl, sym, ◌∙◌}
 use native.Mathlib.Omega.{arith}
 use lib.ListN.{length-take}
 use Rattle.counting_bitmap.specs.TopLayer.{top_of}
-use Rattle.counting_bitmap.proofs.Highest.{less_one, top-hit, top-miss}
+use Rattle.counting_bitmap.proofs.Highest.{less_one, top_hit, top_miss}
 use Rattle.counting_bitmap.proofs.inner.top_layer.Goals as goal
 
 pub loop-i-init : goal.loop-i-init
@@ -24,7 +24,7 @@ returns-then-search_k-count c =
     let l = c.loop-i in
     let args = c.args in
     sym (l.invariant.3
-    ∙ top-hit l.i args.w l.at args.layers.now args.search_k c.count.result c.loop-i-test.true l.invariant.1 c.count.ensures c.if-search_k-count.true)
+    ∙ top_hit l.i args.w l.at args.layers.now args.search_k c.count.result c.loop-i-test.true l.invariant.1 c.count.ensures c.if-search_k-count.true)
 
 pub loop-i-preserved : goal.loop-i-preserved
 loop-i-preserved c =
@@ -34,7 +34,7 @@ loop-i-preserved c =
       omega (arith, less_one l.i args.w c.loop-i-test.true),
       omega arith,
       l.invariant.3
-          ∙ top-miss l.i args.w l.at args.layers.now args.search_k c.count.result c.loop-i-test.true l.invariant.1 c.count.ensures c.if-search_k-count.false,
+          ∙ top_miss l.i args.w l.at args.layers.now args.search_k c.count.result c.loop-i-test.true l.invariant.1 c.count.ensures c.if-search_k-count.false,
     )
 
 pub returns : goal.returns

@@ -4,14 +4,14 @@ use mathlib.Core.Path.{◌≡◌, sym, ap, ◌∙◌}
 use native.Mathlib.Nat.{mul-le-mul_right}
 use native.Mathlib.Omega.{arith}
 use Rattle.counting_bitmap.specs.TopLayer.{part_of}
-use Rattle.counting_bitmap.proofs.Highest.{top-layer-is}
+use Rattle.counting_bitmap.proofs.Highest.{top_layer_is}
 use Rattle.counting_bitmap.proofs.inner.top_part.Goals as goal
 use Rattle.counting_bitmap.proofs.inner.top_part.Goals.{In-Layer}
 
 room : (c : In-Layer) → (c.in-Layer.i + 1) * c.args.w ≤ c.args.n * c.args.w
 room c =
     let args = c.args in
-    let top = top-layer-is args.n args.w args.layers.now args.search_k c.in-Layer.i (sym c.top_layer.ensures ∙ c.in-Layer.is) in
+    let top = top_layer_is args.n args.w args.layers.now args.search_k c.in-Layer.i (sym c.top_layer.ensures ∙ c.in-Layer.is) in
     mul-le-mul_right _ (omega arith)
 
 pub overflow_mul-a : goal.overflow_mul-a

@@ -4,7 +4,7 @@ use mathlib.Core.Path.{◌≡◌, ◌∙◌, refl}
 use borrow.Author.Rules.{rules}
 use native.Mathlib.Omega.{arith}
 use lib.ListN.{length, length-set}
-use Rattle.index_memory.proofs.Fill.{fill_more, fill_none, fill-all}
+use Rattle.index_memory.proofs.Fill.{fill_more, fill_none, fill_all}
 use Rattle.index_memory.proofs.inner.clear_bytes.Goals as goal
 
 pub loop-i-init : goal.loop-i-init
@@ -23,4 +23,4 @@ pub returns : goal.returns
 returns c =
     let v = c.loop-i.invariant in
     let e : c.loop-i.i ≡ length c.args.bytes.now = omega arith in
-    v.2 ∙ fill-all {A = ℕ} 0 _ _ e
+    v.2 ∙ fill_all {A = ℕ} 0 _ _ e

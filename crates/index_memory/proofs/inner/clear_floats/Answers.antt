@@ -5,7 +5,7 @@ use borrow.Author.Rules.{rules}
 use native.Mathlib.Omega.{arith}
 use lib.ListN.{length, length-set}
 use lib.Ieee.{binary32, of_bits}
-use Rattle.index_memory.proofs.Fill.{fill_more, fill_none, fill-all}
+use Rattle.index_memory.proofs.Fill.{fill_more, fill_none, fill_all}
 use Rattle.index_memory.proofs.inner.clear_floats.Goals as goal
 
 pub loop-i-init : goal.loop-i-init
@@ -24,4 +24,4 @@ pub returns : goal.returns
 returns c =
     let v = c.loop-i.invariant in
     let e : c.loop-i.i ≡ length c.args.work.now = omega arith in
-    v.2 ∙ fill-all (of_bits binary32 0) _ _ e
+    v.2 ∙ fill_all (of_bits binary32 0) _ _ e

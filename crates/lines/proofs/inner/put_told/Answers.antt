@@ -1,20 +1,20 @@
 use mathlib.Core.Path.{sym, ap}
 use native.Mathlib.Omega.{arith}
 use Rattle.lines.specs.Lines.{told}
-use Rattle.lines.proofs.Texts.{then, put_as, decimal-length}
+use Rattle.lines.proofs.Texts.{then, put_as, decimal_length}
 use Rattle.lines.proofs.inner.put_told.Goals as goal
 
 pub put_number-q-requires : goal.put_number-q-requires
-put_number-q-requires c = omega (arith, c.put_number-p.ensures.next, c.put_number-p.auto.out, decimal-length c.in-Geometry.d, c.requires)
+put_number-q-requires c = omega (arith, c.put_number-p.ensures.next, c.put_number-p.auto.out, decimal_length c.in-Geometry.d, c.requires)
 
 pub put_number-s-requires : goal.put_number-s-requires
-put_number-s-requires c = omega (arith, c.put_number-p.ensures.next, c.put_number-p.auto.out, decimal-length c.in-Geometry.d, c.put_number-q.ensures.next, c.put_number-q.auto.out, decimal-length c.in-Geometry.n, c.requires)
+put_number-s-requires c = omega (arith, c.put_number-p.ensures.next, c.put_number-p.auto.out, decimal_length c.in-Geometry.d, c.put_number-q.ensures.next, c.put_number-q.auto.out, decimal_length c.in-Geometry.n, c.requires)
 
 pub put_line-requires-in-Geometry : goal.put_line-requires-in-Geometry
-put_line-requires-in-Geometry c = omega (arith, c.put_number-p.ensures.next, c.put_number-p.auto.out, decimal-length c.in-Geometry.d, c.put_number-q.ensures.next, c.put_number-q.auto.out, decimal-length c.in-Geometry.n, c.put_number-s.ensures.next, c.put_number-s.auto.out, decimal-length c.in-Geometry.cap, c.requires)
+put_line-requires-in-Geometry c = omega (arith, c.put_number-p.ensures.next, c.put_number-p.auto.out, decimal_length c.in-Geometry.d, c.put_number-q.ensures.next, c.put_number-q.auto.out, decimal_length c.in-Geometry.n, c.put_number-s.ensures.next, c.put_number-s.auto.out, decimal_length c.in-Geometry.cap, c.requires)
 
 pub put_line-requires-in-Found : goal.put_line-requires-in-Found
-put_line-requires-in-Found c = omega (arith, c.put_number-p-in-Found.ensures.next, c.put_number-p-in-Found.auto.out, decimal-length c.in-Found.len, c.requires)
+put_line-requires-in-Found c = omega (arith, c.put_number-p-in-Found.ensures.next, c.put_number-p-in-Found.auto.out, decimal_length c.in-Found.len, c.requires)
 
 pub returns-in-Refused : goal.returns-in-Refused
 unfolding told

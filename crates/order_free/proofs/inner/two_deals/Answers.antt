@@ -2,14 +2,14 @@
 use mathlib.Core.Path.{◌∙◌, refl}
 use Rattle.paper.specs.Geometry.{geo}
 use Rattle.order_free.specs.Order.{addition}
-use Rattle.order_free.proofs.Reached.{either-deal, fill-again}
+use Rattle.order_free.proofs.Reached.{either_deal, fill_again}
 use Rattle.order_free.proofs.inner.two_deals.Goals as goal
 
 pub fill_one-requires-2 : goal.fill_one-requires-2
-fill_one-requires-2 c = fill-again c.requires.second refl refl refl c.fill_one.auto.work
+fill_one-requires-2 c = fill_again c.requires.second refl refl refl c.fill_one.auto.work
 
 pub fill_two-requires : goal.fill_two-requires
-fill_two-requires c = fill-again c.requires.second c.fill_one-2.auto.faces c.fill_one-2.auto.marks c.fill_one-2.auto.vectors (c.fill_one-2.auto.work ∙ c.fill_one.auto.work)
+fill_two-requires c = fill_again c.requires.second c.fill_one-2.auto.faces c.fill_one-2.auto.marks c.fill_one-2.auto.vectors (c.fill_one-2.auto.work ∙ c.fill_one.auto.work)
 
 pub shape_of-faces : goal.shape_of-faces
 shape_of-faces c = c.merge-r.auto.faces ∙ c.fill_one.auto.faces
@@ -27,4 +27,4 @@ pub returns : goal.returns
 returns c =
     let a = c.args in
     let g = geo a.d a.n a.cap a.mode in
-    either-deal g a.bases.now c.requires.first.good (addition a.i a.v.now) (addition a.j a.u.now) c.requires.apart _ _ _ _ _ c.fill_one.ensures c.fill_one-2.ensures c.merge-r.ensures c.fill_two.ensures
+    either_deal g a.bases.now c.requires.first.good (addition a.i a.v.now) (addition a.j a.u.now) c.requires.apart _ _ _ _ _ c.fill_one.ensures c.fill_one-2.ensures c.merge-r.ensures c.fill_two.ensures

@@ -2,11 +2,11 @@
 use mathlib.Core.Path.{refl}
 use Rattle.paper.specs.Geometry.{geo}
 use Rattle.order_free.specs.Order.{addition}
-use Rattle.order_free.proofs.Reached.{either_order, fill-again}
+use Rattle.order_free.proofs.Reached.{either_order, fill_again}
 use Rattle.order_free.proofs.inner.two_orders.Goals as goal
 
 pub fill_two-requires-2 : goal.fill_two-requires-2
-fill_two-requires-2 c = fill-again c.requires.second refl refl refl c.fill_two.auto.work
+fill_two-requires-2 c = fill_again c.requires.second refl refl refl c.fill_two.auto.work
 
 pub returns : goal.returns
 returns c =

@@ -1,11 +1,11 @@
 use mathlib.Core.Path.{◌≡◌}
 use Prim.Native.Nat.{suc, ◌+◌, ◌-◌}
 use native.Mathlib.Omega.{arith}
-use Rattle.quantization.proofs.Bytes.{word_none, word-step, word_fits, seven, pow-some}
+use Rattle.quantization.proofs.Bytes.{word_none, word_step, word_fits, seven, pow_some}
 use Rattle.quantization.proofs.inner.get_le.Goals as goal
 
 pub loop-j-init : goal.loop-j-init
-loop-j-init c = (omega arith, word_none c.args.s.now (c.args.at + c.args.size) c.args.size, pow-some (c.args.size - c.args.size))
+loop-j-init c = (omega arith, word_none c.args.s.now (c.args.at + c.args.size) c.args.size, pow_some (c.args.size - c.args.size))
 
 pub overflow_mul-r : goal.overflow_mul-r
 overflow_mul-r c = omega (arith, seven c.loop-j.r (c.args.size - c.loop-j.j) c.loop-j.invariant.2 (omega arith))
@@ -21,7 +21,7 @@ loop-j-preserved c =
     let j = c.loop-j.j in
     let e : size - (j - 1) ≡ suc (size - j) = omega arith in (
       omega arith,
-      omega (arith, word-step s at j size (omega arith) (omega arith), c.loop-j.invariant.1, c.wide_to_u64.ensures.0),
+      omega (arith, word_step s at j size (omega arith) (omega arith), c.loop-j.invariant.1, c.wide_to_u64.ensures.0),
       rw e (word_fits c.loop-j.r c.wide_to_u64.result (size - j) c.loop-j.invariant.2 c.wide_to_u64.ensures.1),
     )
 

@@ -2,11 +2,11 @@ use mathlib.Core.Path.{refl, sym, ◌∙◌}
 use Prim.Native.Nat.{◌+◌, ◌%◌}
 use native.Mathlib.Omega.{arith}
 use lib.ListN.{length-set}
-use Rattle.quantization.proofs.Bytes.{put-start, put_step, put-end}
+use Rattle.quantization.proofs.Bytes.{put_start, put_step, put_end}
 use Rattle.quantization.proofs.inner.put_le.Goals as goal
 
 pub loop-j-init : goal.loop-j-init
-loop-j-init c = (omega arith, refl, put-start c.args.out.now c.args.at c.args.size c.args.n)
+loop-j-init c = (omega arith, refl, put_start c.args.out.now c.args.at c.args.size c.args.n)
 
 pub loop-j-preserved : goal.loop-j-preserved
 loop-j-preserved c = (
@@ -16,4 +16,4 @@ loop-j-preserved c = (
 )
 
 pub returns : goal.returns
-returns c = sym (put-end c.loop-j.out c.args.at c.args.size c.loop-j.j c.loop-j.rest (omega arith)) ∙ c.loop-j.invariant.2
+returns c = sym (put_end c.loop-j.out c.args.at c.args.size c.loop-j.j c.loop-j.rest (omega arith)) ∙ c.loop-j.invariant.2

@@ -3,7 +3,7 @@ use mathlib.Core.Path.{◌≡◌, refl, sym, ◌∙◌}
 use Prim.Native.Nat.{◌+◌, ◌≤◌}
 use native.Mathlib.Omega.{arith}
 use lib.ListN.{length, length-set}
-use Rattle.records.proofs.Floats.{floats-turn, floats-end}
+use Rattle.records.proofs.Floats.{floats_turn, floats_end}
 use borrow.Author.Rules.{rules}
 use Rattle.records.proofs.inner.floats_at.Goals as goal
 
@@ -17,11 +17,11 @@ loop-i-preserved c =
       simp length-set (omega arith),
       search rules,
       search rules,
-      rw (c.of_bits.ensures, c.u32_at.ensures) (floats-turn (length c.args.out.now) c.args.s.now c.loop-i.out c.loop-i.i c.loop-i.at (omega arith) (omega arith) ∙ c.loop-i.invariant.3),
+      rw (c.of_bits.ensures, c.u32_at.ensures) (floats_turn (length c.args.out.now) c.args.s.now c.loop-i.out c.loop-i.i c.loop-i.at (omega arith) (omega arith) ∙ c.loop-i.invariant.3),
     )
 
 pub returns : goal.returns
 returns c =
     let h : length c.loop-i.out ≡ c.loop-i.i = omega arith in
     let k : length c.args.out.now ≡ c.loop-i.i = omega arith in
-    sym (floats-end (length c.args.out.now) c.args.s.now c.loop-i.out c.loop-i.i c.loop-i.at h k) ∙ c.loop-i.invariant.3
+    sym (floats_end (length c.args.out.now) c.args.s.now c.loop-i.out c.loop-i.i c.loop-i.at h k) ∙ c.loop-i.invariant.3

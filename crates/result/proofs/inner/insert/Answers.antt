@@ -4,7 +4,7 @@ use native.Mathlib.Omega.{arith}
 use Rattle.result.specs.Ranked.{entry}
 use Rattle.result.specs.Puts.{set_of}
 use Rattle.result.specs.Sets.{entries_of}
-use Rattle.result.proofs.Answers.{fed-stays, fed-held, fed-put, found-held, found_within, found_at}
+use Rattle.result.proofs.Answers.{fed_stays, fed_held, fed_put, found_held, found_within, found_at}
 use Rattle.result.proofs.inner.insert.Goals as goal
 
 pub returns-then-closed_to : goal.returns-then-closed_to
@@ -13,7 +13,7 @@ returns-then-closed_to c =
     let s = set_of a.ids.now a.sims.now a.len a.k 0 in
     let e = entry a.id a.similarity in
     let p = c.requires in
-    fed-stays s e (omega (arith, p.len_le_k, p.ids_len)) (omega (arith, p.len_le_k, p.ids_len)) p.len_le_k.0 (sym c.closed_to.ensures ∙ c.if-closed_to.true)
+    fed_stays s e (omega (arith, p.len_le_k, p.ids_len)) (omega (arith, p.len_le_k, p.ids_len)) p.len_le_k.0 (sym c.closed_to.ensures ∙ c.if-closed_to.true)
 
 pub put-requires : goal.put-requires
 put-requires c = record {
@@ -28,7 +28,7 @@ returns-in-Held c =
     let s = set_of a.ids.now a.sims.now a.len a.k 0 in
     let e = entry a.id a.similarity in
     let p = c.requires in
-    fed-held s e (omega (arith, p.len_le_k, p.ids_len)) (omega (arith, p.len_le_k, p.ids_len)) p.len_le_k.0 (sym c.closed_to.ensures ∙ c.if-closed_to.false) (found-held c.place_of.ensures c.in-Held.is)
+    fed_held s e (omega (arith, p.len_le_k, p.ids_len)) (omega (arith, p.len_le_k, p.ids_len)) p.len_le_k.0 (sym c.closed_to.ensures ∙ c.if-closed_to.false) (found_held c.place_of.ensures c.in-Held.is)
 
 pub returns-in-At : goal.returns-in-At
 unfolding entries_of
@@ -37,4 +37,4 @@ returns-in-At c =
     let s = set_of a.ids.now a.sims.now a.len a.k 0 in
     let e = entry a.id a.similarity in
     let p = c.requires in
-    fed-put s e (omega (arith, p.len_le_k, p.ids_len)) (omega (arith, p.len_le_k, p.ids_len)) p.len_le_k.0 c.in-At.at _ (sym c.closed_to.ensures ∙ c.if-closed_to.false) (found_at c.place_of.ensures c.in-At.at c.in-At.is) c.put.ensures
+    fed_put s e (omega (arith, p.len_le_k, p.ids_len)) (omega (arith, p.len_le_k, p.ids_len)) p.len_le_k.0 c.in-At.at _ (sym c.closed_to.ensures ∙ c.if-closed_to.false) (found_at c.place_of.ensures c.in-At.at c.in-At.is) c.put.ensures

@@ -4,7 +4,7 @@ use Prim.Native.Nat.{ℕ}
 use native.Mathlib.Omega.{arith}
 use Rattle.result.specs.Ranked.{entry, larger}
 use Rattle.result.specs.Places.{entries}
-use Rattle.result.proofs.Walk.{walked, walks-held, walks-found, walks-on, walks-last}
+use Rattle.result.proofs.Walk.{walked, walks_held, walks_found, walks_on, walks_last}
 use Rattle.result.proofs.inner.place_of.Goals as goal
 
 pub loop-insert-init : goal.loop-insert-init
@@ -22,7 +22,7 @@ returns-then-ids-insert c =
     let a = c.args in
     record {
       within = tt;
-      same = sym (walks-held larger (entry a.id a.similarity) a.len a.ids.now a.sims.now (omega arith) (omega arith) l.insert (omega arith) c.if-ids-insert.true) ∙ l.invariant.1;
+      same = sym (walks_held larger (entry a.id a.similarity) a.len a.ids.now a.sims.now (omega arith) (omega arith) l.insert (omega arith) c.if-ids-insert.true) ∙ l.invariant.1;
     }
 
 pub offset_bounds-sims-insert : goal.offset_bounds-sims-insert
@@ -37,7 +37,7 @@ returns-then-sims-insert c =
     let a = c.args in
     record {
       within = omega arith;
-      same = sym (walks-found larger (entry a.id a.similarity) a.len a.ids.now a.sims.now (omega arith) (omega arith) l.insert (omega arith) c.if-ids-insert.false c.if-sims-insert.true) ∙ l.invariant.1;
+      same = sym (walks_found larger (entry a.id a.similarity) a.len a.ids.now a.sims.now (omega arith) (omega arith) l.insert (omega arith) c.if-ids-insert.false c.if-sims-insert.true) ∙ l.invariant.1;
     }
 
 pub overflow_add-insert : goal.overflow_add-insert
@@ -50,7 +50,7 @@ pub loop-insert-preserved : goal.loop-insert-preserved
 loop-insert-preserved c =
     let l = c.loop-insert in
     let a = c.args in
-    (search rules, sym (walks-on larger (entry a.id a.similarity) a.len a.ids.now a.sims.now (omega arith) (omega arith) l.insert (omega arith) c.if-ids-insert.false c.if-sims-insert.false) ∙ l.invariant.1)
+    (search rules, sym (walks_on larger (entry a.id a.similarity) a.len a.ids.now a.sims.now (omega arith) (omega arith) l.insert (omega arith) c.if-ids-insert.false c.if-sims-insert.false) ∙ l.invariant.1)
 
 pub returns : goal.returns
 returns c =
@@ -60,5 +60,5 @@ returns c =
     let m : l.insert ≡ a.len = omega arith in
     record {
       within = omega arith;
-      same = sym (walks-last larger e a.len a.ids.now a.sims.now (omega arith) (omega arith) a.len (omega arith)) ∙ ap (λ (j : ℕ). walked larger e j (entries a.len a.ids.now a.sims.now)) (sym m) ∙ l.invariant.1;
+      same = sym (walks_last larger e a.len a.ids.now a.sims.now (omega arith) (omega arith) a.len (omega arith)) ∙ ap (λ (j : ℕ). walked larger e j (entries a.len a.ids.now a.sims.now)) (sym m) ∙ l.invariant.1;
     }

@@ -2,11 +2,11 @@ use borrow.Author.Rules.{rules}
 use mathlib.Core.Path.{sym, ◌∙◌}
 use native.Mathlib.Omega.{arith}
 use lib.ListN.{length-set}
-use Rattle.result.proofs.Push.{push-starts, push-turns, push-ends}
+use Rattle.result.proofs.Push.{push_starts, push_turns, push_ends}
 use Rattle.result.proofs.inner.push_id.Goals as goal
 
 pub loop-j-init : goal.loop-j-init
-loop-j-init c = (search rules, (search rules, push-starts c.args.at c.args.to c.args.x c.args.ids.now (omega arith) (omega arith)))
+loop-j-init c = (search rules, (search rules, push_starts c.args.at c.args.to c.args.x c.args.ids.now (omega arith) (omega arith)))
 
 pub offset_bounds-ids-j : goal.offset_bounds-ids-j
 offset_bounds-ids-j c = omega arith
@@ -30,10 +30,10 @@ pub loop-j-preserved : goal.loop-j-preserved
 loop-j-preserved c =
     let l = c.loop-j in
     let a = c.args in
-    (search rules, (length-set l.ids l.j l.carry ∙ l.invariant.1.0, sym (push-turns l.j a.to l.carry 0 l.ids (omega arith) c.loop-j-test.true) ∙ l.invariant.1.1))
+    (search rules, (length-set l.ids l.j l.carry ∙ l.invariant.1.0, sym (push_turns l.j a.to l.carry 0 l.ids (omega arith) c.loop-j-test.true) ∙ l.invariant.1.1))
 
 pub returns : goal.returns
 returns c =
     let l = c.loop-j in
     let a = c.args in
-    sym (push-ends l.j a.to l.carry l.ids c.loop-j-test.false) ∙ l.invariant.1.1
+    sym (push_ends l.j a.to l.carry l.ids c.loop-j-test.false) ∙ l.invariant.1.1

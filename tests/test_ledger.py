@@ -160,6 +160,29 @@ class Library(unittest.TestCase):
         self.assertEqual(sorted(c for c in listed_crates() if c.startswith("capi_")), sorted(joined))
 
 
+class Gate(unittest.TestCase):
+    """.ci/run, with a made-up rt that says what the true one would."""
+
+    def run_it(self, line, status):
+        with tempfile.TemporaryDirectory() as room:
+            rt = pathlib.Path(room) / "rt"
+            rt.write_text(f"#!/bin/sh\n[ \"$*\" = ci ] || exit 9\necho '{line}'\necho '3 passed, 0 failed'\nexit {status}\n", encoding="utf-8")
+            rt.chmod(0o755)
+            return subprocess.run([ROOT / ".ci" / "run"], capture_output=True, text=True, env={**os.environ, "PATH": f"{room}:{os.environ['PATH']}"})
+
+    def test_passes_where_rt_ci_passes(self):
+        done = self.run_it("rt: ok; handles allowed: none; must-fail edits: 2 refused; every proof was done in this run", 0)
+        self.assertEqual((0, "3 passed, 0 failed"), (done.returncode, done.stdout.splitlines()[-1]))
+
+    def test_fails_where_rt_ci_fails(self):
+        self.assertEqual(1, self.run_it("rt: paper NOT PROVED", 1).returncode)
+
+    def test_fails_where_an_edit_is_bad(self):
+        done = self.run_it("rt: ok; handles allowed: none; must-fail edits: 1 refused, 1 bad; every proof was done in this run", 0)
+        self.assertEqual(1, done.returncode)
+        self.assertIn("bad", done.stderr)
+
+
 class GateTable(unittest.TestCase):
     def test_wrong_use_is_told(self):
         done = subprocess.run([ROOT / "tools" / "gate-table", "paper", "nothing"], capture_output=True, text=True)

@@ -203,7 +203,7 @@ module _ (g : Geo) (bs : List Float) where
         faces =
             λ (k : ℕ). look_puts (face_among g bs k g.n) (λ (a : Addition). 1) (λ (ix : Ix). has ix.faces k) (face_law k) xs (empty_ix g) (same_refl (empty_ix g))
             ∙ ap (λ (o : ℕ). last_or (taken_at g bs k) (λ (a : Addition). 1) xs o) (no_faces k);
-        face_words_lem = keep_puts (λ (ix : Ix). Words ix.faces) face_words_law xs (empty_ix g) face_zeros;
+        face_words_low = keep_puts (λ (ix : Ix). Words ix.faces) face_words_law xs (empty_ix g) face_zeros;
         marks =
             λ (i : ℕ). look_puts (λ (a : Addition). eqb a.id i) (λ (a : Addition). 1) (λ (ix : Ix). has ix.marks i) (mark_law i) xs (empty_ix g) (same_refl (empty_ix g))
             ∙ ap (λ (o : ℕ). last_or (taken_as g bs i) (λ (a : Addition). 1) xs o) (no_marks i);
@@ -223,6 +223,6 @@ module _ (g : Geo) (bs : List Float) where
   grown_once good xs a b p q =
       let s = own_sized g.d g.n g.cap g.mode _ _ _ good p.lengths in
       let t = own_sized g.d g.n g.cap g.mode _ _ _ good q.lengths in
-      ix_eq (same_words a.faces b.faces (s.faces ∙ sym t.faces) p.face_words_lem q.face_words_lem (λ k. p.faces k ∙ sym (q.faces k)))
+      ix_eq (same_words a.faces b.faces (s.faces ∙ sym t.faces) p.face_words_low q.face_words_low (λ k. p.faces k ∙ sym (q.faces k)))
       (same_words a.marks b.marks (s.marks ∙ sym t.marks) p.mark_words q.mark_words (λ i. p.marks i ∙ sym (q.marks i)))
       (parts_ext g.cap (slot_bytes g.d g.mode) a.vecs b.vecs s.vecs t.vecs (λ i h. p.vecs i h ∙ sym (q.vecs i h)))

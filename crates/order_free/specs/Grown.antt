@@ -46,7 +46,7 @@ module _ (g : Geo) (bs : List Float) where
   pub record Grown (xs : List Addition) (ix : Ix) : Type 0 where
     pub lengths : own_ok_ix g ix ≡ true
     pub faces : (k : ℕ) → has ix.faces k ≡ face_of xs k
-    pub face_words_lem : (q : ℕ) → get_or ix.faces q 0 < 2 ^ 64
+    pub face_words_low : (q : ℕ) → get_or ix.faces q 0 < 2 ^ 64
     pub marks : (i : ℕ) → has ix.marks i ≡ mark_of xs i
     pub mark_words : (q : ℕ) → get_or ix.marks q 0 < 2 ^ 64
     pub vecs : (i : ℕ) → i < g.cap → stored_at g.d g.mode ix.vecs i ≡ bytes_of xs i

@@ -1,4 +1,4 @@
-//! Links the port: one native object file, named by the environment variable PORT. Without it the program is built all the same, and then
+//! Links the port: one object file, named by the environment variable PORT. Without it the program is built all the same, and then
 //! only runs with the stub. The bench is built by this file too.
 
 use std::{env, path::Path};

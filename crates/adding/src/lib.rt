@@ -12,7 +12,7 @@ ghost use Rattle.adding.specs.Adding.{lent_ok, add_shape, late_refusal, with_fac
 ghost use Rattle.adding.specs.Laws.{Laws};
 
 // Refusal 7 or 0, and for 0 the slot of a vector's face in each basis.
-#[derive(Drop)]
+#[derive(Clone, Copy)]
 struct Slots {
     refusal: u32,
     slots: [usize; 32],

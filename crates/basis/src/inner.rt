@@ -5,7 +5,7 @@ ghost use Rattle.basis.specs.Project.{projected, rows_from, Square};
 ghost use Rattle.basis.specs.Four.{column_of, dot_four, fold_four, set_four};
 
 // The sums of four rows.
-#[derive(Drop)]
+#[derive(Clone, Copy)]
 pub struct Four {
     pub a: f32,
     pub b: f32,
@@ -14,7 +14,7 @@ pub struct Four {
 }
 
 // The sums of eight rows.
-#[derive(Drop)]
+#[derive(Clone, Copy)]
 pub struct Eight {
     pub lo: Four,
     pub hi: Four,

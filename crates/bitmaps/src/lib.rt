@@ -10,28 +10,28 @@ ghost use Rattle.bitmaps.specs.Laws.{Laws};
 pub mod inner;
 
 // The next id of a walk, where there is one.
-#[derive(Drop)]
+#[derive(Clone, Copy)]
 pub enum Found {
     At(usize),
     Nothing,
 }
 
 // Whether something is so, or why it could not be asked.
-#[derive(Drop)]
+#[derive(Clone, Copy)]
 pub enum Asked {
     Is(bool),
     Refused(u32),
 }
 
 // A number of ids, or why they could not be counted.
-#[derive(Drop)]
+#[derive(Clone, Copy)]
 pub enum Counted {
     Ids(u32),
     Refused(u32),
 }
 
 // A step of the walk, or why there was none.
-#[derive(Drop)]
+#[derive(Clone, Copy)]
 pub enum Walked {
     At(usize),
     Nothing,

@@ -7,7 +7,7 @@ ghost use Rattle.candidates.specs.Laws.{Laws};
 pub mod inner;
 
 // A refusal, 0 or 7, and how many ids fell off the last layer.
-#[derive(Drop)]
+#[derive(Clone, Copy)]
 pub struct Gathered {
     pub refusal: u32,
     pub dropped: u32,

@@ -18,7 +18,7 @@ use steps::Store;
 const STANDARD_OUTPUT: i32 = 1;
 
 // Where a turn leaves the run: the program's state, the part of the buffer that was read and is not used yet, and whether the run goes on.
-#[derive(Drop)]
+#[derive(Clone, Copy)]
 pub struct Place {
     pub store: Store,
     pub from: usize,
@@ -27,7 +27,7 @@ pub struct Place {
 }
 
 // Where the input that stands in the buffer ends, and whether more was read.
-#[derive(Drop)]
+#[derive(Clone, Copy)]
 pub struct More {
     pub end: usize,
     pub any: bool,

@@ -10,14 +10,14 @@ ghost use Rattle.faces.specs.Laws.{Laws};
 pub mod inner;
 
 // A face, or the number of the refusal.
-#[derive(Drop)]
+#[derive(Clone, Copy)]
 pub enum FaceAnswer {
     Face(i32),
     Refused(u32),
 }
 
 // The faces that spilling picks, in their order: the first `count` of `faces`; the others are 0.
-#[derive(Drop)]
+#[derive(Clone, Copy)]
 pub struct Spilled {
     pub refusal: u32,
     pub count: usize,

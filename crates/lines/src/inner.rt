@@ -1,6 +1,6 @@
 // Lines put into a buffer at a place. Each call asks for the room that its longest text needs, and answers the place behind what it put.
 ghost use Rattle.std.specs.Prelude.{◌≡◌, ◌+◌, ◌*◌, ◌≤◌, [], ◌∷◌, ◌++◌, length};
-ghost use Rattle.lines.specs.Lines.{Put, trimmed, decimal, hexadecimal, glyph as Lines·glyph, told, entry, listing};
+ghost use Rattle.lines.specs.Lines.{Put, trimmed, decimal, hexadecimal, glyph, told, entry, listing};
 
 use super::Told;
 
@@ -57,7 +57,7 @@ pub fn put_decimal(out: &mut [u8], at: usize, n: u32) -> usize
 // One hexadecimal digit, upper case.
 fn glyph(x: u32) -> u8
     requires { x ≤ 15 }
-    ensures { result ≡ Lines·glyph x }
+    ensures { result ≡ glyph x }
 {
     if x < 10 {
         (48 + x) as u8

@@ -6,7 +6,7 @@ ghost use Rattle.lines.specs.Laws.{Laws};
 pub mod inner;
 
 // What one record comes to, but for a search's list: `refused N`, `geometry d n C mode`, `basis b`, `added id`, `found L checked c`.
-#[derive(Drop)]
+#[derive(Clone, Copy)]
 pub enum Told {
     Refused(u32),
     Geometry(u32, u32, u32, u32),

@@ -38,7 +38,7 @@ pub const NO_RECALL: u32 = 14;
 pub const BAD_RECORD: u32 = 15;
 
 // How long each lent memory has to be: in floats (bases, floats), in words of 64 bits (faces, marks, layers, set) and in bytes (vectors).
-#[derive(Drop)]
+#[derive(Clone, Copy)]
 pub struct Lengths {
     pub bases: usize,
     pub faces: usize,

@@ -1,5 +1,5 @@
 // Cases come from standard input, numbers in hexadecimal digits with one byte after each; answers go to standard output, each word after a blank. No
-// contract can say which bytes C's read and write move: of these functions it is proved that they are safe and end.
+// contract can say which bytes a read or a write moves: of these functions it is proved that they are safe and end.
 ghost use Rattle.std.specs.Prelude.{◌≡◌, ◌%◌, ◌/◌, ◌≤◌, length};
 ghost use Rattle.std.specs.Float.{binary32};
 ghost use Rattle.std.specs.Float.Ieee.{to_bits};

@@ -19,7 +19,7 @@ pub struct Session {
 
 // What a record asks for, or the number that refuses it.
 // Geometry: d, n, C, mode. Basis: its number. Add: the id. Search: k, search_k, spill. The floats stay in the record.
-#[derive(Drop)]
+#[derive(Clone, Copy)]
 pub enum Request {
     Refuse(u32),
     Geometry(u32, u32, u32, u32),

@@ -15,7 +15,7 @@ use replay_drawing::inner::Case;
 use replay_filling::inner::start;
 
 // The numbers of a run up to the aim.
-#[derive(Drop)]
+#[derive(Clone, Copy)]
 struct Header {
     case: Case,
     rounds: usize,

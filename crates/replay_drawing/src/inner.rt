@@ -17,7 +17,7 @@ pub struct Case {
 }
 
 // Where the generator stands after a call, and the call's refusal, 0 for none.
-#[derive(Drop)]
+#[derive(Clone, Copy)]
 pub struct Drawn {
     pub seed: u32,
     pub refusal: u32,

@@ -9,7 +9,7 @@ ghost use Rattle.result.specs.Puts.{put_in, set_of};
 use super::ResultSet;
 
 // Where a new entry goes: at a place, or nowhere, since its id is met first.
-#[derive(Drop)]
+#[derive(Clone, Copy)]
 enum Place {
     At(usize),
     Held,

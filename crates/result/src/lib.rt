@@ -22,28 +22,28 @@ pub struct ResultSet {
 }
 
 // A refusal's number, 0 for none, and the set.
-#[derive(Drop)]
+#[derive(Clone, Copy)]
 pub struct Fed {
     pub refusal: u32,
     pub set: ResultSet,
 }
 
 // One entry of a list.
-#[derive(Drop)]
+#[derive(Clone, Copy)]
 pub struct SearchResult {
     pub similarity: f32,
     pub id: u32,
 }
 
 // The entry at a place, or that the list has none there.
-#[derive(Drop)]
+#[derive(Clone, Copy)]
 pub enum Listed {
     Here(SearchResult),
     Past,
 }
 
 // A recall, or why there is none: a set that isn't well formed (13), or 0 asked for (14).
-#[derive(Drop)]
+#[derive(Clone, Copy)]
 pub enum Recall {
     Share(f64),
     BadSet,

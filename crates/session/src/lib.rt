@@ -14,7 +14,7 @@ use steps::Store;
 pub mod inner;
 
 // What stands at the front of the bytes that are there: a whole record of so many bytes after its length, a bad length, or too little to say.
-#[derive(Drop)]
+#[derive(Clone, Copy)]
 pub enum Frame {
     Whole(usize),
     Bad,
@@ -22,7 +22,7 @@ pub enum Frame {
 }
 
 // How far a run has come: how much was taken from the input and put into out, whether the run stops here, and whether it waits for input.
-#[derive(Drop)]
+#[derive(Clone, Copy)]
 pub struct Fed {
     pub session: Session,
     pub used: usize,
@@ -32,7 +32,7 @@ pub struct Fed {
 }
 
 // The same with all of the program's state.
-#[derive(Drop)]
+#[derive(Clone, Copy)]
 pub struct Ran {
     pub store: Store,
     pub used: usize,
@@ -42,7 +42,7 @@ pub struct Ran {
 }
 
 // What the end of the input prints: the first len bytes of text.
-#[derive(Drop)]
+#[derive(Clone, Copy)]
 pub struct Last {
     pub text: [u8; 64],
     pub len: usize,

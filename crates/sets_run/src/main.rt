@@ -17,14 +17,14 @@ const STDIN_FILENO: i32 = 0;
 const STDOUT_FILENO: i32 = 1;
 
 // A number of the input, and the place past the byte after it.
-#[derive(Drop)]
+#[derive(Clone, Copy)]
 struct Read {
     value: u64,
     next: usize,
 }
 
 // How many words of each memory are in use, and the place of the next line.
-#[derive(Drop)]
+#[derive(Clone, Copy)]
 struct Step {
     first: usize,
     second: usize,

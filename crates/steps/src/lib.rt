@@ -10,7 +10,7 @@ use records::Session;
 pub mod inner;
 
 // All of the program's state in one value. The arrays have room for the largest geometry that the program takes; a smaller one uses their front.
-#[derive(Drop)]
+#[derive(Clone, Copy)]
 pub struct Store {
     pub session: Session,
     pub bases: [f32; 256],
@@ -20,7 +20,7 @@ pub struct Store {
 }
 
 // Where a run stands after a record, and the place behind what the record printed.
-#[derive(Drop)]
+#[derive(Clone, Copy)]
 pub struct After {
     pub session: Session,
     pub at: usize,

@@ -14,7 +14,7 @@ ghost use Rattle.vector.specs.Laws.{Laws};
 pub mod inner;
 
 // A number, or the number of the refusal.
-#[derive(Drop)]
+#[derive(Clone, Copy)]
 pub enum Number {
     Value(f32),
     Refused(u32),

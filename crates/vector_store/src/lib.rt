@@ -13,7 +13,7 @@ use counting_bitmap::Top;
 use result::{Fed, ResultSet};
 
 // What a search answers: a refusal, 0 for none, the list, and how many ids fell off the last layer.
-#[derive(Drop)]
+#[derive(Clone, Copy)]
 pub struct Nearest {
     pub refusal: u32,
     pub set: ResultSet,

@@ -8,6 +8,7 @@ import unittest
 
 ROOT = pathlib.Path(__file__).resolve().parent.parent
 LEDGER = (ROOT / "docs" / "PROMISES.md").read_text(encoding="utf-8")
+# What docs/DIFFERENCES.md and docs/DECISIONS.md say of the Rust that the port leaves out.
 RUST_LEFT_OUT = {"dot_product_non_optimized", "euclidean_distance", "iter_results", "load_all_bitmaps", "print_basis", "subtract_into"}
 
 
@@ -58,6 +59,21 @@ def laws():
     return told
 
 
+def source_files(folder, ends):
+    for crate in listed_crates():
+        yield from sorted((ROOT / "crates" / crate / folder).glob(f"*{ends}"))
+
+
+def functions():
+    """The functions and modules of src/."""
+    return {name for path in source_files("src", ".rt") for name in re.findall(r"\b(?:fn|mod) (\w+)", path.read_text(encoding="utf-8"))}
+
+
+def definitions():
+    """The words that specs/ defines, but for fields."""
+    return {name for path in source_files("specs", ".antt") for name in re.findall(r"^ *(?:abbrev|unfoldable) pub ([\w']+) :", path.read_text(encoding="utf-8"), re.M)}
+
+
 def law_rows():
     """What the ledger's rows of laws name, as {crate: [field]}."""
     return {crate: re.findall(r"`([\w'-]+)`", cells) for crate, cells in re.findall(r"^\| `(\w+)::laws` \|(.*?)\| `Laws` \|", LEDGER, re.M)}
@@ -74,18 +90,21 @@ class Laws(unittest.TestCase):
     def test_the_ledger_names_every_law_and_no_other(self):
         self.assertEqual({crate: sorted(fields) for crate, fields in laws().items()}, {crate: sorted(fields) for crate, fields in law_rows().items()})
 
-    def test_names_that_documents_give_are_there(self):
-        """A name in backquotes with an underscore and no other mark, in a page of the auditor's, is one of the code or of a definition, a law's among
-        them, or a crate's, or of the Rust that was left out (DIFFERENCES)."""
-        there = set(listed_crates()) | RUST_LEFT_OUT
-        for crate in listed_crates():
-            for folder in ("src", "specs"):
-                for path in (ROOT / "crates" / crate / folder).glob("*.*"):
-                    there |= set(re.findall(r"[A-Za-z]\w*", path.read_text(encoding="utf-8")))
+    def test_names_that_documents_give_to_laws_are_fields(self):
+        """A name in backquotes with an underscore and no other mark, in a page of the auditor's, is a law, if it is no function, definition or crate. No law has the name of
+        one of those, so a law that a page names cannot go unseen."""
+        there = {field for fields in laws().values() for field in fields}
+        others = functions() | definitions() | set(listed_crates())
+        self.assertEqual(set(), there & others)
         for page in ("PROMISES.md", "RULES.md", "DECISIONS.md", "DIFFERENCES.md"):
             text = (ROOT / "docs" / page).read_text(encoding="utf-8")
             with self.subTest(page=page):
-                self.assertEqual([], sorted(set(re.findall(r"`([a-z]\w*_\w+)`", text)) - there))
+                self.assertEqual([], sorted(set(re.findall(r"`([a-z]\w*_\w+)`", text)) - there - others - RUST_LEFT_OUT))
+
+    def test_names_are_in_snake_case(self):
+        """tools/port-names finds no word of specs/ and proofs/ that is not."""
+        done = subprocess.run([ROOT / "tools" / "port-names", "--list"], capture_output=True, text=True)
+        self.assertEqual((0, "", ""), (done.returncode, done.stdout, done.stderr))
 
 
 class Ledger(unittest.TestCase):
@@ -211,9 +230,12 @@ class Tried(unittest.TestCase):
     def run_it(self, *words, said=""):
         with tempfile.TemporaryDirectory() as room:
             rt = pathlib.Path(room) / "rt"
-            rt.write_text("#!/bin/sh\nls crates/*/must-fail/*.edit >&2\nprintf '%s\\n' \"$*\"\n" + f"cat <<'SAID'\n{said}\nSAID\n", encoding="utf-8")
+            asked = pathlib.Path(room) / "asked"
+            rt.write_text(f"#!/bin/sh\nls crates/*/must-fail/*.edit >&2\necho \"$*\" > {asked}\ncat <<'SAID'\n{said}\nSAID\n", encoding="utf-8")
             rt.chmod(0o755)
-            return subprocess.run([ROOT / "tools" / "tried", *words], capture_output=True, text=True, env={**os.environ, "PATH": f"{room}:{os.environ['PATH']}"})
+            done = subprocess.run([ROOT / "tools" / "tried", *words], capture_output=True, text=True, env={**os.environ, "PATH": f"{room}:{os.environ['PATH']}"})
+            done.asked = asked.read_text(encoding="utf-8").strip() if asked.exists() else None
+            return done
 
     def test_wrong_use_is_told(self):
         for words in (["nothing"], ["--all"], ["search"]):
@@ -225,14 +247,16 @@ class Tried(unittest.TestCase):
     def test_only_the_named_crates_edits_are_tried(self):
         names = sorted(p.stem for p in (ROOT / "crates" / "ortho" / "tried").glob("*.edit"))
         said = "\n".join(f"rt: must-fail ortho/{name}.edit: refused, as it must be: ./src/lib.rt:1:1: error: `returns`" for name in names)
-        done = self.run_it("ortho", said=said)
+        done = self.run_it("--from-nothing", "ortho", said=said)
         self.assertEqual([f"crates/ortho/must-fail/{name}.edit" for name in names], done.stderr.split())
+        self.assertEqual("must-fail --anew ortho", done.asked)
+        self.assertEqual("must-fail ortho", self.run_it("ortho", said=said).asked)
         self.assertEqual((0, f"{len(names)} passed, 0 failed"), (done.returncode, done.stdout.splitlines()[-1]))
 
     def test_an_edit_that_is_not_refused_fails(self):
         names = sorted(p.stem for p in (ROOT / "crates" / "ortho" / "tried").glob("*.edit"))
         said = "\n".join(f"rt: must-fail ortho/{name}.edit: refused, as it must be" for name in names[1:]) + f"\nrt: must-fail ortho/{names[0]}.edit: NOT REFUSED: the crate is still proved"
-        done = self.run_it("ortho", said=said)
+        done = self.run_it("--from-nothing", "ortho", said=said)
         self.assertEqual((1, f"{len(names) - 1} passed, 1 failed"), (done.returncode, done.stdout.splitlines()[-1]))
 
 

@@ -8,7 +8,7 @@ use lib.Dec.{ltb, eqb}
 use Rattle.paper.specs.Choice.{pick, refuse}
 use Rattle.paper.specs.Geometry.{Geo, geo_ok}
 use Rattle.paper.proofs.Choice.{and_l, and_r, refuse_ok, refuse_rest}
-use Rattle.paper.proofs.Geometry.{geo_facts}
+use Rattle.paper.proofs.GeometryFacts.{geo_facts}
 use Rattle.index_memory.specs.Memory.{own_ok, bases_ok, own_refusal}
 use Rattle.index_memory.proofs.Lengths.{own_sized, bases_long, own_tests, own_first}
 use Rattle.adding.specs.Adding.{lent_ok, lengths_ok, add_shape, Shaped}

@@ -10,7 +10,7 @@ use lib.ListN.{length}
 use borrow.Author.Tests.{ne_eqb, leb-true, eqb-true, eqb-false}
 use Rattle.paper.specs.Geometry.{Geo, geo_ok, vector_bytes}
 use Rattle.paper.proofs.Choice.{refuse_ok, refuse_rest}
-use Rattle.paper.proofs.Geometry.{geo_facts}
+use Rattle.paper.proofs.GeometryFacts.{geo_facts}
 use Rattle.index_memory.specs.Memory.{store_ok, slot_bytes}
 use Rattle.index_memory.proofs.Lengths.{store_sized}
 use Rattle.paper.specs.Choice.{pick}

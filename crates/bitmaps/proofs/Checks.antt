@@ -9,7 +9,7 @@ use borrow.Author.Tests.{eqb-true, ltb-true}
 use Rattle.paper.specs.Choice.{refuse}
 use Rattle.paper.specs.Geometry.{cap_ok, set_words}
 use Rattle.paper.proofs.Choice.{refuse_ok, refuse_rest}
-use Rattle.paper.proofs.Geometry.{cap_facts}
+use Rattle.paper.proofs.GeometryFacts.{cap_facts}
 use Rattle.bitmaps.specs.Answers.{set_fault, pair_fault, id_fault, unless_refused, Changed, AskedIs, CountedIs, stepped_to, walked_refusal, walked_value, WalkedIs}
 use Rattle.bitmaps.specs.declared.Found.{Found}
 use Rattle.bitmaps.specs.declared.Asked.{Asked}

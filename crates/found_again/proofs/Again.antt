@@ -9,7 +9,7 @@ use mathlib.Core.Logic.{◌⊎◌, inl, inr}
 use lib.Ieee.{Float}
 use lib.ListN.{length}
 use Rattle.paper.specs.Geometry.{Geo, set_words, face_words}
-use Rattle.paper.proofs.Geometry.{face_words_by_basis}
+use Rattle.paper.proofs.GeometryFacts.{face_words_by_basis}
 use Rattle.index_memory.specs.Memory.{Ix, face_bit}
 use Rattle.index_memory.proofs.Places.{part_long, part_is}
 use Rattle.bitmaps.specs.Words.{has}

@@ -10,7 +10,7 @@ use Rattle.paper.specs.Choice.{◌and◌, refuse}
 use Rattle.paper.specs.Geometry.{Geo, geo_ok, set_words, bases_len, face_words, vector_bytes}
 use Rattle.bitmaps.specs.Words.{empty}
 use Rattle.paper.proofs.Choice.{and_l, and_r}
-use Rattle.paper.proofs.Geometry.{geo_facts}
+use Rattle.paper.proofs.GeometryFacts.{geo_facts}
 use Rattle.index_memory.specs.Memory.{Ix, ix_of, store_ok, own_ok, own_ok_ix, bases_ok, own_refusal, empty_ix, done, empty_of, StoreSized, Sized}
 
 pub store_sized : (d cap mode lm lv : ℕ) → store_ok d cap mode lm lv ≡ true → StoreSized d cap mode lm lv

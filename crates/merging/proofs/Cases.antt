@@ -8,7 +8,7 @@ use native.Mathlib.Nat.{mul-le-mul}
 use lib.ListN.{length}
 use borrow.Author.Tests.{ne_eqb}
 use Rattle.paper.specs.Geometry.{Geo, geo_ok, comp_size}
-use Rattle.paper.proofs.Geometry.{comp_le}
+use Rattle.paper.proofs.GeometryFacts.{comp_le}
 use Rattle.index_memory.specs.Memory.{Ix, ix_of, own_ok_ix, own_refusal, done, Sized}
 use Rattle.index_memory.proofs.Lengths.{own_tests, own_first, own_sized}
 use Rattle.bitmaps.specs.Words.{union, shared, is_empty}

@@ -1,3 +1,4 @@
 pub mod Choice
-pub mod Geometry
+pub mod GeometryFacts
 pub mod Copies
+pub mod Answering

@@ -2,13 +2,11 @@
 use Rattle.std.specs.Prelude.{ℕ, ◌*◌, ◌/◌, ◌%◌, ◌≤◌, ◌≡◌, Bool, true, leb, eqb}
 use Rattle.paper.specs.Choice.{◌and◌, pick}
 use Rattle.paper.specs.declared.Lengths.{Lengths}
+use Rattle.paper.specs.declared.Geometry.{Geometry}
 
 -- dimensions d, bases n, capacity C (`cap`) and store mode
-pub record Geo : Type 0 where
-  pub d : ℕ
-  pub n : ℕ
-  pub cap : ℕ
-  pub mode : ℕ
+abbrev pub Geo : Type 0
+Geo = Geometry
 
 abbrev pub geo : ℕ → ℕ → ℕ → ℕ → Geo
 geo d n cap mode = record { d = d; n = n; cap = cap; mode = mode }

@@ -12,7 +12,7 @@ use lib.Seq.{sets, drop-cons, drop-length, take_at}
 use lib.Ieee.{Float, nan}
 use borrow.Author.Tests.{le-leb, lt-leb, eq-eqb, ne_eqb}
 use Rattle.paper.specs.Geometry.{mode_ok, comp_size}
-use Rattle.paper.proofs.Geometry.{comp_low}
+use Rattle.paper.proofs.GeometryFacts.{comp_low}
 use Rattle.quantization.specs.Stored.{comp_bytes, lower_bytes, component_at, components, restored, Fit}
 use Rattle.quantization.specs.Copies.{Marshalled, marshalled, marshal_refusal, marshal_of, unmarshalled, unmarshal_refusal, unmarshal_of}
 use Rattle.quantization.proofs.Sets.{sets_append, sets_front}

@@ -7,7 +7,7 @@ use native.Mathlib.Omega.{arith}
 use lib.ListN.{length, take, drop, replicate, length-take, length-replicate}
 use lib.Seq.{sets, sets-eq, drop-drop}
 use Rattle.paper.specs.Geometry.{set_words, bases_len, face_words, vector_bytes}
-use Rattle.paper.proofs.Geometry.{comp_le}
+use Rattle.paper.proofs.GeometryFacts.{comp_le}
 use Rattle.records.proofs.Requests.{square}
 
 pub few_bases : (n d : ℕ) → n ≤ 4 → d ≤ 8 → bases_len d n ≤ 256

@@ -10,7 +10,7 @@ use lib.ListN.{length, take, drop}
 use borrow.Author.Tests.{eq-eqb, ne_eqb, le-leb, lt-leb, eqb-true}
 use Rattle.paper.specs.Geometry.{Geo, geo_ok, set_words}
 use Rattle.paper.proofs.Choice.{and_l, and_r, refuse_ok, refuse_rest}
-use Rattle.paper.proofs.Geometry.{geo_facts, face_words_by_basis}
+use Rattle.paper.proofs.GeometryFacts.{geo_facts, face_words_by_basis}
 use Rattle.index_memory.specs.Memory.{Ix, own_ok, bases_ok}
 use Rattle.index_memory.proofs.Lengths.{own_sized, bases_long}
 use Rattle.index_memory.proofs.Places.{part_end, part_long, part_is}

@@ -7,7 +7,7 @@ use native.Mathlib.Nat.{mul-le-mul, mul-le-mul_left, le_of_lt}
 use borrow.Author.Rules.{rules}
 use lib.ListN.{length}
 use lib.Seq.{sets, take_all}
-use Rattle.paper.proofs.Geometry.{comp_le}
+use Rattle.paper.proofs.GeometryFacts.{comp_le}
 use Rattle.quantization.specs.Stored.{lower_bytes}
 use Rattle.adding.proofs.Turns.{lowered_more, lowered_none, room}
 use Rattle.adding.proofs.put_components.Goals as goal

@@ -5,7 +5,7 @@ use native.Mathlib.Omega.{arith}
 use native.Mathlib.Nat.{mul-le-mul}
 use lib.ListN.{length}
 use Rattle.paper.specs.Geometry.{comp_size}
-use Rattle.paper.proofs.Geometry.{comp_le}
+use Rattle.paper.proofs.GeometryFacts.{comp_le}
 use Rattle.index_memory.proofs.Places.{place}
 use Rattle.adding.specs.Adding.{with_vector}
 use Rattle.adding.proofs.put_vector.Goals as goal

@@ -1,7 +1,7 @@
 -- `backend_memory::scan_refusal` meets its contract. Assumes nothing.
 use mathlib.Core.Path.{◌∙◌, sym}
 use borrow.Author.Tests.{le-leb, lt-leb, eq-eqb, ne_eqb}
-use Rattle.paper.proofs.Geometry.{geo_facts}
+use Rattle.paper.proofs.GeometryFacts.{geo_facts}
 use Rattle.backend_memory.specs.Scan.{scan_refusal}
 use Rattle.backend_memory.proofs.scan_refusal.Goals as goal
 

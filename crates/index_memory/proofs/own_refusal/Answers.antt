@@ -1,6 +1,6 @@
 -- `index_memory::own_refusal` meets its contract. Assumes nothing.
 use mathlib.Core.Path.{sym, ◌∙◌}
-use Rattle.paper.proofs.Geometry.{geo_facts}
+use Rattle.paper.proofs.GeometryFacts.{geo_facts}
 use Rattle.index_memory.specs.Memory.{own_refusal}
 use Rattle.index_memory.proofs.own_refusal.Goals as goal
 

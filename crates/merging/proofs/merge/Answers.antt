@@ -4,7 +4,7 @@ use mathlib.Core.Path.{◌∙◌, sym}
 use native.Mathlib.Omega.{arith}
 use native.Mathlib.Nat.{mul-le-mul}
 use Rattle.paper.specs.Geometry.{geo}
-use Rattle.paper.proofs.Geometry.{comp_le}
+use Rattle.paper.proofs.GeometryFacts.{comp_le}
 use Rattle.index_memory.specs.Memory.{ix_of}
 use Rattle.index_memory.proofs.Lengths.{own_none}
 use Rattle.merging.proofs.Cases.{merge_first, merge_second, merge_shared, merge_done, first_sized, second_sized, copy_args}

@@ -3,7 +3,7 @@ use Prim.Native.Nat.{ℕ, ◌+◌, ◌*◌, ◌/◌, ◌<◌, ◌≤◌}
 use native.Mathlib.Omega.{arith}
 use lib.ListN.{length}
 use Rattle.paper.specs.Geometry.{comp_size}
-use Rattle.paper.proofs.Geometry.{comp_low}
+use Rattle.paper.proofs.GeometryFacts.{comp_low}
 use Rattle.quantization.proofs.Copies.{fit, unfit, room, marshal_start, marshal_step, marshal_end, marshal_unknown, marshal_short, marshal_done}
 use Rattle.quantization.proofs.marshal.Goals as goal
 use Rattle.quantization.proofs.marshal.Goals.{In-loop-i}

@@ -4,7 +4,7 @@ use native.Mathlib.Omega.{arith}
 use lib.ListN.{length, length-set}
 use lib.Seq.{sets}
 use Rattle.paper.specs.Geometry.{comp_size}
-use Rattle.paper.proofs.Geometry.{comp_low}
+use Rattle.paper.proofs.GeometryFacts.{comp_low}
 use Rattle.quantization.specs.Stored.{component_at, components}
 use Rattle.quantization.proofs.Copies.{room, unmarshal_start, unmarshal_step, unmarshal_end, unmarshal_unknown, unmarshal_uneven, unmarshal_short, unmarshal_done}
 use Rattle.quantization.proofs.unmarshal.Goals as goal

@@ -1,6 +1,6 @@
 -- `vector_store::shape_refusal` meets its contract. Assumes nothing.
 use mathlib.Core.Path.{◌∙◌, sym}
-use Rattle.paper.proofs.Geometry.{geo_facts}
+use Rattle.paper.proofs.GeometryFacts.{geo_facts}
 use Rattle.vector_store.specs.Search.{search_shape}
 use Rattle.vector_store.proofs.shape_refusal.Goals as goal
 

@@ -7,7 +7,7 @@ use mathlib.Core.Path.{◌≡◌, ◌∙◌, ap, sym, subst}
 use mathlib.Core.Bool.{true, false}
 use lib.Ieee.{Float, is_nan, binary32, of_bits}
 use lib.ListN.{length}
-use Rattle.paper.proofs.Geometry.{comp_le}
+use Rattle.paper.proofs.GeometryFacts.{comp_le}
 use Rattle.index_memory.specs.Memory.{slot_bytes}
 use Rattle.index_memory.proofs.Places.{place}
 use Rattle.bitmaps.specs.Walk.{NextIs, ids_from}

@@ -8,5 +8,5 @@ overflow_mul-result-2 c = omega (arith, mul-le-mul c.requires.1 (mul-le-mul (le_
 
 pub overflow_mul-result-3 : goal.overflow_mul-result-3
 overflow_mul-result-3 c =
-    let w : c.args.cap / 64 ≤ 1024 = omega arith in
+    let w : c.args.g.cap / 64 ≤ 1024 = omega arith in
     omega (arith, mul-le-mul (mul-le-mul c.requires.1 (mul-le-mul (le_refl 2) c.requires.0)) w)

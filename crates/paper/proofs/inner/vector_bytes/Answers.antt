@@ -1,7 +1,7 @@
 use native.Mathlib.Omega.{arith}
 use native.Mathlib.Nat.{mul-le-mul}
 use Prim.Native.Nat.{◌≤◌}
-use Rattle.paper.proofs.Geometry.{comp_le}
+use Rattle.paper.proofs.GeometryFacts.{comp_le}
 use Rattle.paper.proofs.inner.vector_bytes.Goals as goal
 
 pub overflow_mul-result : goal.overflow_mul-result

@@ -1,0 +1,46 @@
+-- Answers by their numbers: what a proof of a call that may be refused cites. Assumes nothing.
+use Rattle.std.proofs.Common.{◌≡◌, ◌<◌, ℕ, zero, suc, refl, sym, arith, Ok, Err}
+use Rattle.paper.specs.declared.Refusal.{Refusal}
+use Rattle.paper.specs.declared.Refusal.TheVariants.{WrongGeometry, WrongLength, WrongId, WrongK, NotFinite, NoNorm, NoProjection, NoLayer, NoMark, NanScore, SharedId, FullCount, BadSet, NoRecall, BadRecord}
+use Rattle.paper.specs.Refusals.{number_of, unless_refused, Answers}
+
+-- no refusal has the number of acceptance
+pub number_low : (r : Refusal) → 0 < number_of r
+number_low WrongGeometry = omega arith
+number_low WrongLength = omega arith
+number_low WrongId = omega arith
+number_low WrongK = omega arith
+number_low NotFinite = omega arith
+number_low NoNorm = omega arith
+number_low NoProjection = omega arith
+number_low NoLayer = omega arith
+number_low NoMark = omega arith
+number_low NanScore = omega arith
+number_low SharedId = omega arith
+number_low FullCount = omega arith
+number_low BadSet = omega arith
+number_low NoRecall = omega arith
+number_low BadRecord = omega arith
+
+-- an accepted call's value
+pub unless_accepted : {A : Type 0} (fault : ℕ) (new old : A) → fault ≡ 0 → unless_refused fault new old ≡ new
+unless_accepted zero new old e = refl
+unless_accepted (suc f) new old e = absurd (omega arith)
+
+-- what stays where a call is refused
+pub unless_kept : {A : Type 0} (fault : ℕ) (new old : A) → 0 < fault → unless_refused fault new old ≡ old
+unless_kept zero new old h = absurd (omega arith)
+unless_kept (suc f) new old h = refl
+
+-- the same with the refusal at hand
+pub unless_told : {A : Type 0} (r : Refusal) (fault : ℕ) (new old : A) → number_of r ≡ fault → unless_refused fault new old ≡ old
+unless_told r fault new old e =
+    let low = number_low r in
+    unless_kept fault new old (omega arith)
+
+-- an answer that is refused, and one that is not
+pub answers_refused : {A : Type 0} (r : Refusal) (fault : ℕ) (x none : A) → number_of r ≡ fault → Answers (Err r) fault x none
+answers_refused r fault x none e = record { refusal = e; value = sym (unless_told r fault x none e) }
+
+pub answers_done : {A : Type 0} (y : A) (fault : ℕ) (x none : A) → fault ≡ 0 → y ≡ x → Answers (Ok y) fault x none
+answers_done y fault x none e v = record { refusal = sym e; value = rw (unless_accepted fault x none e) v }

@@ -6,6 +6,9 @@ ghost use Rattle.std.specs.Prelude.{◌≡◌};
 ghost use Rattle.quantization.specs.Bf16.{lowered, widened};
 ghost use Rattle.quantization.specs.Copies.{marshalled, marshal_of, unmarshalled, unmarshal_of};
 ghost use Rattle.quantization.specs.Laws.{Laws};
+ghost use Rattle.paper.specs.Refusals.{code_of};
+
+use paper::Refusal;
 
 pub mod inner;
 
@@ -36,46 +39,47 @@ pub fn widen(h: u16) -> u32
     h as u32 * 0x1_0000
 }
 
-// Copies the components of v into the array, lowered on the way as the mode says, and keeps the bytes beyond them. Refuses 1
-// for an unknown mode, then 2 for an array that is shorter than the components need; the array is then unchanged.
-pub fn marshal(mode: usize, v: &[f32], array: &mut [u8]) -> u32
-    ensures { marshalled result array.new ≡ marshal_of mode v.now array.old }
+// Copies the components of v into the array, lowered on the way as the mode says, and keeps the bytes beyond them. Refuses
+// an unknown mode (WrongGeometry), then an array that is shorter than the components need (WrongLength); the array is then unchanged.
+pub fn marshal(mode: usize, v: &[f32], array: &mut [u8]) -> Result<(), Refusal>
+    ensures { marshalled (code_of result) array.new ≡ marshal_of mode v.now array.old }
 {
     if !paper::mode_ok(mode) {
-        return paper::WRONG_GEOMETRY;
+        return Err(Refusal::WrongGeometry);
     }
     let size = paper::component_size(mode);
     let n = v.len();
     // by a quotient, since n * size may be too large for a usize
     if array.len() / size < n {
-        return paper::WRONG_LENGTH;
+        return Err(Refusal::WrongLength);
     }
     for i in 0..n {
         inner::put_component(array, i * size, v[i], mode);
     }
-    0
+    Ok(())
 }
 
-// Reads every component of the array into out, widened as the mode says, and keeps the components of out beyond them. Refuses 1
-// for an unknown mode, then 2 if the array isn't made of whole components or out has no room for each; out is then unchanged.
-pub fn unmarshal(mode: usize, array: &[u8], out: &mut [f32]) -> u32
-    ensures { unmarshalled result out.new ≡ unmarshal_of mode array.now out.old }
+// Reads every component of the array into out, widened as the mode says, and keeps the components of out beyond them. Refuses
+// an unknown mode (WrongGeometry), then an array that isn't made of whole components, or that out has no room for (WrongLength); out is
+// then unchanged.
+pub fn unmarshal(mode: usize, array: &[u8], out: &mut [f32]) -> Result<(), Refusal>
+    ensures { unmarshalled (code_of result) out.new ≡ unmarshal_of mode array.now out.old }
 {
     if !paper::mode_ok(mode) {
-        return paper::WRONG_GEOMETRY;
+        return Err(Refusal::WrongGeometry);
     }
     let size = paper::component_size(mode);
     if array.len() % size != 0 {
-        return paper::WRONG_LENGTH;
+        return Err(Refusal::WrongLength);
     }
     let n = array.len() / size;
     if out.len() < n {
-        return paper::WRONG_LENGTH;
+        return Err(Refusal::WrongLength);
     }
     for i in 0..n {
         out[i] = inner::component(array, i * size, mode);
     }
-    0
+    Ok(())
 }
 
 // The laws of this crate, claimed: specs/Laws.antt says each of them.

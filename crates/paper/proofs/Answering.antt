@@ -1,5 +1,5 @@
 -- Answers by their numbers: what a proof of a call that may be refused cites. Assumes nothing.
-use Rattle.std.proofs.Common.{◌≡◌, ◌<◌, ℕ, zero, suc, refl, sym, arith, Ok, Err}
+use Rattle.std.proofs.Common.{◌≡◌, ◌<◌, ℕ, zero, suc, refl, sym, ap, ◌∙◌, arith, Ok, Err, [], ◌∷◌, get_or, Result}
 use Rattle.paper.specs.declared.Refusal.{Refusal}
 use Rattle.paper.specs.declared.Refusal.TheVariants.{WrongGeometry, WrongLength, WrongId, WrongK, NotFinite, NoNorm, NoProjection, NoLayer, NoMark, NanScore, SharedId, FullCount, BadSet, NoRecall, BadRecord}
 use Rattle.paper.specs.Refusals.{number_of, unless_refused, Answers}
@@ -44,3 +44,44 @@ answers_refused r fault x none e = record { refusal = e; value = sym (unless_tol
 
 pub answers_done : {A : Type 0} (y : A) (fault : ℕ) (x none : A) → fault ≡ 0 → y ≡ x → Answers (Ok y) fault x none
 answers_done y fault x none e v = record { refusal = sym e; value = rw (unless_accepted fault x none e) v }
+
+-- the refusal of a number, back again
+unfoldable refusal_of : ℕ → Refusal
+refusal_of n = get_or (WrongGeometry ∷ WrongGeometry ∷ WrongLength ∷ WrongId ∷ WrongK ∷ NotFinite ∷ NoNorm ∷ NoProjection ∷ NoLayer ∷ NoMark ∷ NanScore ∷ SharedId ∷ FullCount ∷ BadSet ∷ NoRecall ∷ BadRecord ∷ []) n WrongGeometry
+
+refusal_back : (r : Refusal) → refusal_of (number_of r) ≡ r
+unfolding refusal_of
+refusal_back WrongGeometry = refl
+refusal_back WrongLength = refl
+refusal_back WrongId = refl
+refusal_back WrongK = refl
+refusal_back NotFinite = refl
+refusal_back NoNorm = refl
+refusal_back NoProjection = refl
+refusal_back NoLayer = refl
+refusal_back NoMark = refl
+refusal_back NanScore = refl
+refusal_back SharedId = refl
+refusal_back FullCount = refl
+refusal_back BadSet = refl
+refusal_back NoRecall = refl
+refusal_back BadRecord = refl
+
+-- a number names one refusal
+pub one_refusal : (r s : Refusal) → number_of r ≡ number_of s → r ≡ s
+one_refusal r s e = sym (refusal_back r) ∙ ap refusal_of e ∙ refusal_back s
+
+-- two answers that say the same are equal
+pub answered_once : {A : Type 0} (r s : Result A Refusal) (fault : ℕ) (x none : A) → Answers r fault x none → Answers s fault x none → r ≡ s
+answered_once (Ok a) (Ok b) fault x none p q = ap Ok (p.value ∙ sym q.value)
+answered_once (Ok a) (Err s) fault x none p q =
+    let low = number_low s in
+    let zero : 0 ≡ fault = p.refusal in
+    let more : number_of s ≡ fault = q.refusal in
+    absurd (omega arith)
+answered_once (Err r) (Ok b) fault x none p q =
+    let low = number_low r in
+    let more : number_of r ≡ fault = p.refusal in
+    let zero : 0 ≡ fault = q.refusal in
+    absurd (omega arith)
+answered_once (Err r) (Err s) fault x none p q = ap Err (one_refusal r s (p.refusal ∙ sym q.refusal))

@@ -1,3 +1,4 @@
 pub mod Choice
 pub mod Geometry
 pub mod Refusals
+pub mod Laws

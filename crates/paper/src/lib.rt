@@ -4,6 +4,7 @@
 ghost use Rattle.std.specs.Prelude.{◌≡◌};
 ghost use Rattle.paper.specs.Geometry.{cap_ok, mode_ok, geo_ok, comp_size, geo, lengths_of};
 ghost use Rattle.paper.specs.Choice.{refuse};
+ghost use Rattle.paper.specs.Laws.{Laws};
 ghost use Rattle.paper.specs.Refusals.{number_of, code_of};
 
 use std::error::Error;
@@ -158,3 +159,8 @@ impl Geometry {
         }
     }
 }
+
+// The laws of this crate, claimed: specs/Laws.antt says each of them.
+pub fn laws()
+    ensures { Laws }
+{}

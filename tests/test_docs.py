@@ -113,9 +113,12 @@ class Refusals(unittest.TestCase):
         self.assertEqual({n: f"`{name}`" for n, name in names.items()}, {n: cells[3] for n, cells in self.table().items() if n})
 
     def test_the_names_of_rattle(self):
-        names = {int(number): name for name, number in re.findall(r"^pub const (\w+): u32 = (\d+);", read("crates", "paper", "src", "lib.rt"), re.M)}
-        for number in range(1, 16):
-            self.assertEqual(f"`{names[number]}`", self.table()[number][1])
+        """The cases of the enum, in their order from 1 on, which is how the language counts them."""
+        cases = re.search(r"^pub enum Refusal \{\n(.*?)^\}", read("crates", "paper", "src", "lib.rt"), re.M | re.S).group(1)
+        names = re.findall(r"^    (\w+)(?: = 1)?,$", cases, re.M)
+        self.assertEqual(1, cases.count("="))
+        self.assertEqual(15, len(names))
+        self.assertEqual([f"`{name}`" for name in names], [self.table()[number][1] for number in range(1, 16)])
 
     def test_the_orders_are_those_of_the_scope(self):
         """Where a call stands in both pages, its order of checks is the same; what C adds for places is left out."""

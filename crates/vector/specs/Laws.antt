@@ -1,15 +1,15 @@
 -- The laws of this crate, which `laws` claims: what documents and the crates above lean on.
-use Rattle.std.specs.Prelude.{◌≡◌, true, List, [], ℕ, length, Float}
+use Rattle.std.specs.Prelude.{◌≡◌, true, List, [], ℕ, Result, length, Float}
+use Rattle.paper.specs.declared.Refusal.{Refusal}
+use Rattle.paper.specs.Refusals.{Answers}
 use Rattle.sqrt.specs.RootOf.{root}
-use Rattle.vector.specs.declared.Number.{Number}
 use Rattle.vector.specs.Fold.{zero32, dot_of, squares_of}
 use Rattle.vector.specs.Finite.{all_finite}
 use Rattle.vector.specs.Norm.{norm_number, normalized}
-use Rattle.vector.specs.Answer.{Answers}
 
 pub record Laws : Type 0 where
   -- two answers to the same call are equal
-  pub one_answer : (r s : Number) (num : ℕ) (x : Float) → Answers r num x → Answers s num x → r ≡ s
+  pub one_answer : (r s : Result Float Refusal) (num : ℕ) (x : Float) → Answers r num x zero32 → Answers s num x zero32 → r ≡ s
   -- length 0 gives +0.0, the dot product and the distance
   pub dot_of_none : dot_of [] [] ≡ zero32
   pub distance_of_none : root (squares_of [] []) ≡ zero32

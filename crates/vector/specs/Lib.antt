@@ -1,5 +1,4 @@
 pub mod Fold
 pub mod Finite
 pub mod Norm
-pub mod Answer
 pub mod Laws

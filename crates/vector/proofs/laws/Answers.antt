@@ -18,7 +18,7 @@ distance_of_none = root_zero
 
 pub returns : goal.returns
 returns c = record {
-  one_answer = one_answer;
+  one_answer = λ r s num x. one_answer r s num x zero32;
   dot_of_none = dot_of_none;
   distance_of_none = distance_of_none;
   length_normalized = length_normalized;

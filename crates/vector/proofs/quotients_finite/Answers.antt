@@ -1,21 +1,14 @@
 -- `vector::quotients_finite` meets its contract. Assumes nothing.
-use borrow.Author.Rules.{rules}
-use mathlib.Core.Path.{refl, sym, ◌∙◌}
-use native.Mathlib.Omega.{arith}
-use Rattle.vector.proofs.Vectors.{every_yes, every_no, every_end}
-use Rattle.vector.proofs.quotients_finite.Invariants.{good}
+use Rattle.std.proofs.Common.{Bool, ◌∙◌, rules, tests}
+use Rattle.std.proofs.lemmas.Iterator.{YieldsList-from_slice}
+use Rattle.std.proofs.lemmas.Iterator.Search.{all_from_yields_List}
+use Rattle.std.specs.Float.{binary32}
+use Rattle.std.specs.Float.Ieee.{Float, div}
+use Rattle.vector.specs.Finite.{is_finite}
+use Rattle.vector.proofs.Vectors.{every_is}
 use Rattle.vector.proofs.quotients_finite.Goals as goal
 
-pub loop-i-init : goal.loop-i-init
-loop-i-init c = (search rules, refl)
-
-pub returns-then-not-is_finite : goal.returns-then-not-is_finite
-returns-then-not-is_finite c =
-    sym (every_no (good c.args.norm) c.args.vec.now c.loop-i.i (omega arith) (sym c.is_finite.ensures ∙ c.if-not-is_finite.true)) ∙ c.loop-i.invariant.1
-
-pub loop-i-preserved : goal.loop-i-preserved
-loop-i-preserved c =
-    (search rules, sym (every_yes (good c.args.norm) c.args.vec.now c.loop-i.i (omega arith) (sym c.is_finite.ensures ∙ c.if-not-is_finite.false)) ∙ c.loop-i.invariant.1)
-
 pub returns : goal.returns
-returns c = sym (every_end (good c.args.norm) _ c.loop-i.i c.loop-i-test.false) ∙ c.loop-i.invariant.1
+returns c =
+    let good : Float → Bool = λ x. is_finite (div binary32 x c.args.norm) in
+    all_from_yields_List good _ _ _ c.all.ensures.ran (YieldsList-from_slice c.args.vec.now cc) (λ x b q k. search (rules, tests)) ∙ every_is good c.args.vec.now

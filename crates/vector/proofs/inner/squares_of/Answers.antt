@@ -1,6 +1,5 @@
 -- `vector::inner::squares_of` meets its contract. Assumes nothing.
 use borrow.Author.Rules.{rules}
-use Prim.Native.Nat.{◌-◌}
 use mathlib.Core.Path.{refl, sym, ◌∙◌}
 use native.Mathlib.Omega.{arith}
 use Rattle.vector.specs.Fold.{squares_of, dist_step}

@@ -9,11 +9,10 @@ use lib.Dec.{eqb}
 use lib.ListN.{length}
 use borrow.Author.Tests.{eq-eqb, ne_eqb}
 use mathlib.Core.Bool.{Bool, true, false}
+use Rattle.std.specs.Prelude.{Option, Some, None}
 use Rattle.paper.specs.Choice.{pick}
 use Rattle.bitmaps.specs.Words.{has, size, sum_to}
 use Rattle.bitmaps.specs.Walk.{NextIs, keep, ids_in, ids_from, ids_of, first_of, listed, RisesFrom}
-use Rattle.bitmaps.specs.declared.Found.{Found}
-use Rattle.bitmaps.specs.declared.Found.TheVariants.{At, Nothing}
 use Rattle.bitmaps.proofs.Digits.{Words, digit_lt}
 use Rattle.bitmaps.proofs.Rising.{le_or_lt, past_end}
 use Rattle.bitmaps.proofs.Size.{sum_ext, size_has}
@@ -128,29 +127,29 @@ ids_rising s = ids_rise (length s * 64) 0 0 s (omega arith)
 
 -- ---- the walk by `next` goes through the list: the id found comes first, and the rest is what follows from one past it
 
-pub walk_on : (s : List ℕ) (from i : ℕ) → NextIs s from (At i) → ids_from s from ≡ i ∷ ids_from s (i + 1)
+pub walk_on : (s : List ℕ) (from i : ℕ) → NextIs s from (Some i) → ids_from s from ≡ i ∷ ids_from s (i + 1)
 walk_on s from i p =
     let e : from + (length s * 64 - from) - (i + 1) ≡ length s * 64 - (i + 1) = omega arith in
     ids_next (length s * 64 - from) from i s p.0 (omega arith) p.2 p.3 ∙ rw e
 
-pub walk_end : (s : List ℕ) (from : ℕ) → NextIs s from Nothing → ids_from s from ≡ []
+pub walk_end : (s : List ℕ) (from : ℕ) → NextIs s from None → ids_from s from ≡ []
 walk_end s from p = ids_none (length s * 64 - from) from s p
 
 pub walk_start : (s : List ℕ) → ids_from s 0 ≡ ids_of s
 walk_start s = let e : length s * 64 - 0 ≡ length s * 64 = omega arith in rw e
 
 -- the answer of `next` is the first of the ids at or after the place
-pub next_first : (s : List ℕ) (from : ℕ) (r : Found) → NextIs s from r → r ≡ first_of (ids_from s from)
-next_first s from (At i) p = sym (ap first_of (walk_on s from i p))
-next_first s from Nothing p = sym (ap first_of (walk_end s from p))
+pub next_first : (s : List ℕ) (from : ℕ) (r : Option ℕ) → NextIs s from r → r ≡ first_of (ids_from s from)
+next_first s from (Some i) p = sym (ap first_of (walk_on s from i p))
+next_first s from None p = sym (ap first_of (walk_end s from p))
 
 -- two answers that meet the contract of `next` are the same
-pub next_unique : (s : List ℕ) (from : ℕ) (r r' : Found) → NextIs s from r → NextIs s from r' → r ≡ r'
-next_unique s from (At i) (At j) p q =
+pub next_unique : (s : List ℕ) (from : ℕ) (r r' : Option ℕ) → NextIs s from r → NextIs s from r' → r ≡ r'
+next_unique s from (Some i) (Some j) p q =
     let low : i ≤ j = ⊎_elim (λ (l : i ≤ j). l) (λ (l : j < i). absurd (omega (arith, p.3 j q.0 l, q.2))) (le_or_lt i j) in
     let high : j ≤ i = ⊎_elim (λ (l : j ≤ i). l) (λ (l : i < j). absurd (omega (arith, q.3 i p.0 l, p.2))) (le_or_lt j i) in
     let same : i ≡ j = omega arith in
-    ap At same
-next_unique s from (At i) Nothing p q = absurd (omega (arith, q i p.0, p.2))
-next_unique s from Nothing (At j) p q = absurd (omega (arith, p j q.0, q.2))
-next_unique s from Nothing Nothing p q = refl
+    ap Some same
+next_unique s from (Some i) None p q = absurd (omega (arith, q i p.0, p.2))
+next_unique s from None (Some j) p q = absurd (omega (arith, p j q.0, q.2))
+next_unique s from None None p q = refl

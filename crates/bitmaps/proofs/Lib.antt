@@ -5,4 +5,3 @@ pub mod Size
 pub mod Rising
 pub mod Ids
 pub mod Members
-pub mod Checks

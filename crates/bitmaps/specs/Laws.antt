@@ -1,11 +1,9 @@
 -- The laws of the sets, which `laws` claims: what the words mean for the ids, and what the walk meets. They hold of any lists of words; where two sets
 -- meet, they have one length.
-use Rattle.std.specs.Prelude.{ℕ, ◌+◌, ◌-◌, ◌*◌, ◌<◌, min, max, false, not, ◌&&◌, ◌||◌, ◌≡◌, List, [], ◌∷◌, eqb, length}
+use Rattle.std.specs.Prelude.{ℕ, ◌+◌, ◌-◌, ◌*◌, ◌<◌, min, max, false, not, ◌&&◌, ◌||◌, ◌≡◌, Option, Some, None, List, [], ◌∷◌, eqb, length}
 use Rattle.std.specs.Bool.{xor}
 use Rattle.bitmaps.specs.Words.{has, holds, Words, union, exclusive, without, shared, inserted, empty, size}
 use Rattle.bitmaps.specs.Walk.{NextIs, ids_from, ids_of, first_of, listed, RisesFrom}
-use Rattle.bitmaps.specs.declared.Found.{Found}
-use Rattle.bitmaps.specs.declared.Found.TheVariants.{At, Nothing}
 
 pub record Laws : Type 0 where
   -- ---- which ids a set has after each operation: 1 for an id that it has, 0 for any other
@@ -45,8 +43,8 @@ pub record Laws : Type 0 where
   -- the walk starts with the whole list,
   pub walk_start : (s : List ℕ) → ids_from s 0 ≡ ids_of s
   -- goes through it from one past each id found,
-  pub walk_on : (s : List ℕ) (from i : ℕ) → NextIs s from (At i) → ids_from s from ≡ i ∷ ids_from s (i + 1)
+  pub walk_on : (s : List ℕ) (from i : ℕ) → NextIs s from (Some i) → ids_from s from ≡ i ∷ ids_from s (i + 1)
   -- and finds nothing only where nothing is left
-  pub walk_end : (s : List ℕ) (from : ℕ) → NextIs s from Nothing → ids_from s from ≡ []
+  pub walk_end : (s : List ℕ) (from : ℕ) → NextIs s from None → ids_from s from ≡ []
   -- what a step has to be is the first id at or after the place
-  pub next_first : (s : List ℕ) (from : ℕ) (r : Found) → NextIs s from r → r ≡ first_of (ids_from s from)
+  pub next_first : (s : List ℕ) (from : ℕ) (r : Option ℕ) → NextIs s from r → r ≡ first_of (ids_from s from)

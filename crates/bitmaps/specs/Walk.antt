@@ -1,9 +1,7 @@
 -- The rising walk over the ids of a set.
-use Rattle.std.specs.Prelude.{ℕ, zero, suc, ◌≤◌, ◌<◌, ◌*◌, ◌-◌, ◌+◌, ◌≡◌, List, [], ◌∷◌, eqb, length}
+use Rattle.std.specs.Prelude.{ℕ, zero, suc, ◌≤◌, ◌<◌, ◌*◌, ◌-◌, ◌+◌, ◌≡◌, Option, Some, None, List, [], ◌∷◌, eqb, length}
 use Rattle.paper.specs.Choice.{pick}
 use Rattle.bitmaps.specs.Words.{has}
-use Rattle.bitmaps.specs.declared.Found.{Found}
-use Rattle.bitmaps.specs.declared.Found.TheVariants.{At, Nothing}
 
 -- i in front of a list, where its digit is not 0
 abbrev pub keep : ℕ → ℕ → List ℕ → List ℕ
@@ -24,14 +22,14 @@ abbrev pub ids_of : List ℕ → List ℕ
 ids_of s = ids_in (length s * 64) 0 s
 
 -- the next id: the first of those at or after the place
-abbrev pub first_of : List ℕ → Found
-first_of [] = Nothing
-first_of (i ∷ l) = At i
+abbrev pub first_of : List ℕ → Option ℕ
+first_of [] = None
+first_of (i ∷ l) = Some i
 
 -- the same, said by what the answer has to be: an id, not before the place, and none between; or none from the place on
-abbrev pub NextIs : List ℕ → ℕ → Found → Type 0
-NextIs s from (At i) = (from ≤ i) × (i < length s * 64) × (has s i ≡ 1) × ((j : ℕ) → from ≤ j → j < i → has s j ≡ 0)
-NextIs s from Nothing = (j : ℕ) → from ≤ j → has s j ≡ 0
+abbrev pub NextIs : List ℕ → ℕ → Option ℕ → Type 0
+NextIs s from (Some i) = (from ≤ i) × (i < length s * 64) × (has s i ≡ 1) × ((j : ℕ) → from ≤ j → j < i → has s j ≡ 0)
+NextIs s from None = (j : ℕ) → from ≤ j → has s j ≡ 0
 
 -- how often i stands in a list
 unfoldable pub listed : ℕ → List ℕ → ℕ

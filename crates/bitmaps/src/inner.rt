@@ -3,8 +3,6 @@ ghost use Rattle.std.specs.Prelude.{◌≡◌, ◌*◌, ◌<◌, ◌≤◌, leng
 ghost use Rattle.bitmaps.specs.Words.{union, exclusive, without, inserted, size, has, holds, is_empty, empty};
 ghost use Rattle.bitmaps.specs.Walk.{NextIs};
 
-use super::Found;
-
 // The ids of either.
 pub fn or(a: &mut [u64], b: &[u64])
     requires { length a.old ≡ length b.now }
@@ -96,27 +94,27 @@ pub fn contains(a: &[u64], id: usize) -> bool
 }
 
 // The next id at or after a place. A word is looked at as a whole: a word of 0 has no id, and in any other the trailing zeros lead to its lowest.
-pub fn next(a: &[u64], from: usize) -> Found
+pub fn next(a: &[u64], from: usize) -> Option<usize>
     requires { length a.now ≤ 1024 }
     ensures { NextIs a.now from result }
 {
     let mut q = from / 64;
     if a.len() <= q {
-        return Found::Nothing;
+        return None;
     }
     let first = a[q] >> (from % 64);
     if first != 0 {
-        return Found::At(from + u64::trailing_zeros(first) as usize);
+        return Some(from + u64::trailing_zeros(first) as usize);
     }
     q += 1;
     while q < a.len() {
         let x = a[q];
         if x != 0 {
-            return Found::At(q * 64 + u64::trailing_zeros(x) as usize);
+            return Some(q * 64 + u64::trailing_zeros(x) as usize);
         }
         q += 1;
     }
-    Found::Nothing
+    None
 }
 
 // Takes every id out.

@@ -17,8 +17,7 @@ use Rattle.result.specs.Places.{entries, put, Found, Within, full_above}
 use Rattle.result.specs.Puts.{put_in, set_of}
 use Rattle.result.specs.Sets.{well_formed, entries_of, holding, counted, fed_set, feed_refusal, feed_of, answer, empty_set, made_of}
 use Rattle.result.specs.declared.ResultSet.{ResultSet}
-use Rattle.result.specs.declared.inner.Place.{Place}
-use Rattle.result.specs.declared.inner.Place.TheVariants.{At, Held}
+use Rattle.std.proofs.Common.{Option, Some, None}
 use Rattle.result.proofs.Walk.{length_entries, get_d_entries}
 use Rattle.result.proofs.Puts.{len_is, hold_same}
 
@@ -96,15 +95,15 @@ recount s e is ss n h = ap (λ (r : ResultSet). set_of r.ids r.sims r.len r.k (s
 
 -- ---- a place that was found
 
-module _ {n : ℕ} {ids : List ℕ} {sims : List Float} {e : Entry} {p : Place} (f : Found n ids sims e p) where
-  pub found_held : p ≡ Held → entries n ids sims ≡ placed larger e (entries n ids sims)
-  found_held q = ap (λ (r : Place). put r e (entries n ids sims)) (sym q) ∙ f.same
+module _ {n : ℕ} {ids : List ℕ} {sims : List Float} {e : Entry} {p : Option ℕ} (f : Found n ids sims e p) where
+  pub found_held : p ≡ None → entries n ids sims ≡ placed larger e (entries n ids sims)
+  found_held q = ap (λ (r : Option ℕ). put r e (entries n ids sims)) (sym q) ∙ f.same
 
-  pub found_within : (i : ℕ) → p ≡ At i → i ≤ n
-  found_within i q = subst (λ (r : Place). Within n r) q f.within
+  pub found_within : (i : ℕ) → p ≡ Some i → i ≤ n
+  found_within i q = subst (λ (r : Option ℕ). Within n r) q f.within
 
-  pub found_at : (i : ℕ) → p ≡ At i → insert_at i e (entries n ids sims) ≡ placed larger e (entries n ids sims)
-  found_at i q = ap (λ (r : Place). put r e (entries n ids sims)) (sym q) ∙ f.same
+  pub found_at : (i : ℕ) → p ≡ Some i → insert_at i e (entries n ids sims) ≡ placed larger e (entries n ids sims)
+  found_at i q = ap (λ (r : Option ℕ). put r e (entries n ids sims)) (sym q) ∙ f.same
 
 -- ---- a set's form
 

@@ -9,7 +9,7 @@ use Rattle.result.specs.Lists.{all_of}
 use Rattle.result.specs.Ranked.{Entry, larger, fed_list}
 use Rattle.result.specs.Sets.{entries_of, empty_set}
 use Rattle.result.specs.Leaves.{Leaves}
-use Rattle.result.specs.declared.Fed.{Fed}
+use Rattle.result.specs.Sets.{Fed}
 use Rattle.result.proofs.Keeps.{held_e, entries_none, empty_k, empty_checked, sound_empty}
 use Rattle.result.proofs.Grown.{all_accepted, all_entries, all_checked}
 

@@ -1,5 +1,5 @@
 -- The laws of ranked lists and of result sets, which `laws` claims. The first are over any comparison, with what each asks of it.
-use Rattle.std.specs.Prelude.{ℕ, ◌+◌, ◌<◌, ◌≤◌, min, Bool, true, false, ◌≡◌, List, [], Float, length, get_or}
+use Rattle.std.specs.Prelude.{ℕ, ◌+◌, ◌<◌, ◌≤◌, min, Bool, true, false, ◌≡◌, List, [], Float, Result, length, get_or}
 use Rattle.std.specs.Float.Ieee.{lt, is_nan}
 use Rattle.result.specs.Lists.{all_of, Each}
 use Rattle.result.specs.Ranked.{Entry, held_e, larger, stays, fed, fed_list, in_order, Apart, Outcome, OneWay, Through}
@@ -7,7 +7,7 @@ use Rattle.result.specs.Places.{full_above}
 use Rattle.result.specs.Sets.{well_formed, Sound, entries_of, empty_set, fed_set, fed_all, feed_all_of, answer}
 use Rattle.result.specs.Recalls.{told_by}
 use Rattle.result.specs.declared.ResultSet.{ResultSet}
-use Rattle.result.specs.declared.Recall.{Recall}
+use Rattle.paper.specs.declared.Refusal.{Refusal}
 
 pub record Laws : Type 0 where
   -- ---- lists, over any comparison
@@ -54,4 +54,4 @@ pub record Laws : Type 0 where
       → full_above s.len s.k s.sims x ≡ true → full_above (fed_set s e).len (fed_set s e).k (fed_set s e).sims x ≡ true
   -- ---- recall
   -- two recalls that tell the same number and share are the same answer
-  pub told_apart : (a b : Recall) → told_by a ≡ told_by b → a ≡ b
+  pub told_apart : (a b : Result Float Refusal) → told_by a ≡ told_by b → a ≡ b

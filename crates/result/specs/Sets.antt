@@ -1,13 +1,14 @@
 -- A result set, and what each call makes of one.
-use Rattle.std.specs.Prelude.{ℕ, ◌+◌, Bool, true, not, ◌≡◌, List, [], ◌∷◌, ◌++◌, map, eqb, leb, take, drop, length, replicate, Float}
+use Rattle.std.specs.Prelude.{ℕ, ◌+◌, Bool, true, not, ◌≡◌, List, [], ◌∷◌, ◌++◌, map, eqb, leb, take, drop, length, replicate, Float, Result}
 use Rattle.std.specs.Float.Ieee.{is_nan, of_bits}
 use Rattle.std.specs.Float.{binary32}
 use Rattle.paper.specs.Choice.{◌and◌, pick, refuse}
+use Rattle.paper.specs.Refusals.{code_of, value_or}
+use Rattle.paper.specs.declared.Refusal.{Refusal}
 use Rattle.result.specs.Lists.{all_of, is_zero, is_held, is_blank}
 use Rattle.result.specs.Ranked.{Entry, entry, larger, fed}
 use Rattle.result.specs.Places.{entries}
 use Rattle.result.specs.declared.ResultSet.{ResultSet}
-use Rattle.result.specs.declared.Fed.{Fed}
 
 -- well formed: k no more than 256, the length no more than k, no score NaN, and zero bits alone behind the last entry
 unfoldable pub well_formed : ResultSet → Bool
@@ -30,8 +31,16 @@ unfoldable pub empty_set : ℕ → ResultSet
 empty_set k = record { ids = replicate 256 0; sims = replicate 256 (of_bits binary32 0); len = 0; k = k; checked = 0 }
 
 -- an answer: a refusal's number, 0 for none, and a set
+pub record Fed : Type 0 where
+  pub refusal : ℕ
+  pub set : ResultSet
+
 abbrev pub answer : ℕ → ResultSet → Fed
 answer n s = record { refusal = n; set = s }
+
+-- what a call answers of a set: where it is refused there is the old one
+abbrev pub fed_or : ResultSet → Result ResultSet Refusal → Fed
+fed_or old r = answer (code_of r) (value_or old r)
 
 -- making a set refuses 4 alone, and then gives an empty list with k 0 and checked 0
 unfoldable pub made_of : ℕ → Fed

@@ -8,13 +8,6 @@ ghost use Rattle.result.specs.Puts.{put_in, set_of};
 
 use super::ResultSet;
 
-// Where a new entry goes: at a place, or nowhere, since its id is met first.
-#[derive(Clone, Copy)]
-enum Place {
-    At(usize),
-    Held,
-}
-
 // An empty set for at most k entries.
 pub fn empty(k: usize) -> ResultSet
     requires { k ≤ 256 }
@@ -47,22 +40,28 @@ pub fn closed_to(sims: &[f32], len: usize, k: usize, similarity: f32) -> bool
     last > similarity
 }
 
-// Where the entry goes in a list of len.
-fn place_of<'a>(ids: &'a [u32], sims: &'a [f32], len: usize, id: u32, similarity: f32) -> Place
+// Where the entry goes in a list of len, and none where its id is met first.
+fn place_of<'a>(
+    ids: &'a [u32],
+    sims: &'a [f32],
+    len: usize,
+    id: u32,
+    similarity: f32,
+) -> Option<usize>
     requires { (len ≤ length ids.now) × (len ≤ length sims.now) }
     ensures { Found len ids.now sims.now (entry id similarity) result }
 {
     let mut insert = 0;
     while insert < len {
         if ids[insert] == id {
-            return Place::Held;
+            return None;
         }
         if sims[insert] < similarity {
-            return Place::At(insert);
+            return Some(insert);
         }
         insert += 1;
     }
-    Place::At(len)
+    Some(len)
 }
 
 // Puts x in at `at`, and moves what stood from there on along by one, up to `to`: what stood at `to` - 1 falls out.
@@ -142,8 +141,8 @@ pub fn insert(
         return len;
     }
     match place_of(ids, sims, len, id, similarity) {
-        Place::Held => len,
-        Place::At(at) => put(ids, sims, at, len, k, id, similarity),
+        None => len,
+        Some(at) => put(ids, sims, at, len, k, id, similarity),
     }
 }
 

@@ -3,10 +3,13 @@
 
 ghost use Rattle.std.specs.Prelude.{◌≡◌, ◌≤◌, min, eqb, drop, take, length};
 ghost use Rattle.result.specs.Lists.{all_of, is_zero, is_blank, is_held};
-ghost use Rattle.result.specs.Sets.{made_of, well_formed, entries_of, feed_of};
+ghost use Rattle.result.specs.Sets.{made_of, empty_set, well_formed, entries_of, feed_of, fed_or};
 ghost use Rattle.result.specs.Reads.{ListedIs};
 ghost use Rattle.result.specs.Recalls.{count_of, pairs_of, told_by, recall_of};
 ghost use Rattle.result.specs.Laws.{Laws};
+ghost use Rattle.paper.specs.Refusals.{code_of};
+
+use paper::Refusal;
 
 pub mod inner;
 
@@ -21,33 +24,11 @@ pub struct ResultSet {
     pub checked: u32,
 }
 
-// A refusal's number, 0 for none, and the set.
-#[derive(Clone, Copy)]
-pub struct Fed {
-    pub refusal: u32,
-    pub set: ResultSet,
-}
-
-// One entry of a list.
-#[derive(Clone, Copy)]
+/// One entry of a list.
+#[derive(Clone, Copy, Debug)]
 pub struct SearchResult {
     pub similarity: f32,
     pub id: u32,
-}
-
-// The entry at a place, or that the list has none there.
-#[derive(Clone, Copy)]
-pub enum Listed {
-    Here(SearchResult),
-    Past,
-}
-
-// A recall, or why there is none: a set that isn't well formed (13), or 0 asked for (14).
-#[derive(Clone, Copy)]
-pub enum Recall {
-    Share(f64),
-    BadSet,
-    AtZero,
 }
 
 // Whether every id from `from` on is 0.
@@ -138,20 +119,14 @@ fn least(n: usize, at: u32) -> usize
 }
 
 impl ResultSet {
-    // An empty set for at most k entries. Refuses 4 for a k over 256: the set is then empty, with k 0 and checked 0.
-    pub fn new(k: usize) -> Fed
-        ensures { result ≡ made_of k }
+    /// An empty set for at most k entries. Refuses 4 for a k over 256: what the paper answers then is an empty set, with k 0 and checked 0.
+    pub fn new(k: usize) -> Result<ResultSet, Refusal>
+        ensures { fed_or (empty_set 0) result ≡ made_of k }
     {
         if 256 < k {
-            return Fed {
-                refusal: paper::WRONG_K,
-                set: inner::empty(0),
-            };
+            return Err(Refusal::WrongK);
         }
-        Fed {
-            refusal: 0,
-            set: inner::empty(k),
-        }
+        Ok(inner::empty(k))
     }
 
     // Whether the set is well formed.
@@ -188,80 +163,67 @@ impl ResultSet {
         self.len == 0
     }
 
-    // Entry i of the list, counted from 0, and Past where the list has no entry i. Refuses nothing: of a set that isn't well formed it reads
-    // what stands in the first len places of its arrays.
-    pub fn result_at(self, i: usize) -> Listed
+    /// Entry i of the list, counted from 0, and none where the list has no entry i. Refuses nothing: of a set that isn't well formed it reads
+    /// what stands in the first len places of its arrays.
+    pub fn result_at(self, i: usize) -> Option<SearchResult>
         ensures { ListedIs (entries_of self) i result }
     {
         if self.len <= i {
-            return Listed::Past;
+            return None;
         }
         if 256 <= i {
-            return Listed::Past;
+            return None;
         }
         let similarity = self.sims[i];
         let id = self.ids[i];
-        Listed::Here(SearchResult { similarity, id })
+        Some(SearchResult { similarity, id })
     }
 
-    // Feeds an entry: a full set whose last score is greater stays; else the walk stops at an equal id; else the entry goes before the first
-    // smaller score, or to the end, and the list is cut to k. Either way it is counted. Refuses 13 for a set that isn't well formed, 10 for a
-    // NaN and 12 for a full count, and hands a refused set back as it came.
-    pub fn feed(mut self, id: u32, similarity: f32) -> Fed
-        ensures { result ≡ feed_of self id similarity }
+    /// Feeds an entry: a full set whose last score is greater stays; else the walk stops at an equal id; else the entry goes before the first
+    /// smaller score, or to the end, and the list is cut to k. Either way it is counted. Refuses 13 for a set that isn't well formed, 10 for a
+    /// NaN and 12 for a full count: the caller then still has the set as it came.
+    pub fn feed(mut self, id: u32, similarity: f32) -> Result<ResultSet, Refusal>
+        ensures { fed_or self result ≡ feed_of self id similarity }
     {
         if !self.well_formed() {
-            return Fed {
-                refusal: paper::BAD_SET,
-                set: self,
-            };
+            return Err(Refusal::BadSet);
         }
         if similarity != similarity {
-            return Fed {
-                refusal: paper::NAN_SCORE,
-                set: self,
-            };
+            return Err(Refusal::NanScore);
         }
         if self.checked == 4294967295 {
-            return Fed {
-                refusal: paper::FULL_COUNT,
-                set: self,
-            };
+            return Err(Refusal::FullCount);
         }
         self = inner::ranked(self, id, similarity);
-        Fed {
-            refusal: 0,
-            set: self,
-        }
+        Ok(self)
     }
 
-    // The same for a set that stays with the caller and is fed in place: the refusal's number comes back, 0 for none.
-    pub fn add_result(&mut self, id: u32, similarity: f32) -> u32
-        ensures { (result ≡ (feed_of self.old id similarity).refusal) × (self.new ≡ (feed_of self.old id similarity).set) }
+    /// The same for a set that stays with the caller and is fed in place: a refused set is left as it was.
+    pub fn add_result(&mut self, id: u32, similarity: f32) -> Result<(), Refusal>
+        ensures { (code_of result ≡ (feed_of self.old id similarity).refusal) × (self.new ≡ (feed_of self.old id similarity).set) }
     {
-        let fed = (*self).feed(id, similarity);
-        *self = fed.set;
-        fed.refusal
+        *self = (*self).feed(id, similarity)?;
+        Ok(())
     }
 
-    // How many pairs the first `at` entries of the two lists have with one id, over `at`, all as f64. Refuses 13 where either set isn't well formed,
-    // then 14 for an `at` of 0; a refused recall tells +0.0.
-    pub fn compute_recall(self, baseline: ResultSet, at: u32) -> Recall
+    /// How many pairs the first `at` entries of the two lists have with one id, over `at`, all as f64. Refuses 13 where either set isn't well formed,
+    /// then 14 for an `at` of 0; a refused recall tells +0.0.
+    pub fn compute_recall(self, baseline: ResultSet, at: u32) -> Result<f64, Refusal>
         ensures { told_by result ≡ recall_of self baseline at }
     {
         if !self.well_formed() {
-            return Recall::BadSet;
+            return Err(Refusal::BadSet);
         }
         if !baseline.well_formed() {
-            return Recall::BadSet;
+            return Err(Refusal::BadSet);
         }
         if at == 0 {
-            return Recall::AtZero;
+            return Err(Refusal::NoRecall);
         }
         let n = least(self.len, at);
         let m = least(baseline.len, at);
         let found = pairs_in(&baseline.ids, m, &self.ids, n);
-        Recall::Share(found as f64 / at as f64)
+        Ok(found as f64 / at as f64)
     }
 }
 

@@ -1,11 +1,11 @@
 -- The laws of the layers, which `laws` claims: what merging sets in turn leaves, and which layer is chosen. n layers of w words each; a call has w = cap / 64.
-use Rattle.std.specs.Prelude.{ℕ, ◌+◌, ◌-◌, ◌*◌, ◌/◌, ◌<◌, ◌≤◌, min, ◌≡◌, List, [], ltb, length, get_or}
+use Rattle.std.specs.Prelude.{ℕ, ◌+◌, ◌-◌, ◌*◌, ◌/◌, ◌<◌, ◌≤◌, min, ◌≡◌, Result, Ok, List, [], ltb, length, get_or}
 use Rattle.bitmaps.specs.Words.{has, holds, size, empty, sum_to}
 use Rattle.counting_bitmap.specs.Layers.{layer, merged_all, dropped_all, times, sizes, Sized, counts_of}
 use Rattle.counting_bitmap.specs.TopLayer.{top_of, Highest, TooFew}
 use Rattle.counting_bitmap.specs.Answers.{layers_fault, ChosenIs, top_part}
-use Rattle.counting_bitmap.specs.declared.Chosen.{Chosen}
-use Rattle.counting_bitmap.specs.declared.Chosen.TheVariants.{Layer, Refused}
+use Rattle.paper.specs.declared.Refusal.{Refusal}
+use Rattle.paper.specs.Refusals.{code_of}
 
 pub record Laws : Type 0 where
   -- ---- sets merged in turn
@@ -27,20 +27,20 @@ pub record Laws : Type 0 where
   pub counts_at : (n w i : ℕ) (ls : List ℕ) → i < n → get_or (counts_of n w ls) i 0 ≡ size (layer w ls i)
   -- ---- the chosen layer, of whatever a call with search_k k answers
   -- a layer is the answer only if it has k ids and none above it has
-  pub chosen_is_highest : (cap n k : ℕ) (ls : List ℕ) (r : Chosen) → ChosenIs (layers_fault cap n (length ls)) (top_of n (cap / 64) ls k) r
-      → (i : ℕ) → r ≡ Layer i → Highest n (cap / 64) ls k i
+  pub chosen_is_highest : (cap n k : ℕ) (ls : List ℕ) (r : Result ℕ Refusal) → ChosenIs (layers_fault cap n (length ls)) (top_of n (cap / 64) ls k) r
+      → (i : ℕ) → r ≡ Ok i → Highest n (cap / 64) ls k i
   -- and such a layer is the answer, unless 1 or 2 is
-  pub highest_is_chosen : (cap n k : ℕ) (ls : List ℕ) (r : Chosen) → ChosenIs (layers_fault cap n (length ls)) (top_of n (cap / 64) ls k) r
-      → layers_fault cap n (length ls) ≡ 0 → (i : ℕ) → Highest n (cap / 64) ls k i → r ≡ Layer i
+  pub highest_is_chosen : (cap n k : ℕ) (ls : List ℕ) (r : Result ℕ Refusal) → ChosenIs (layers_fault cap n (length ls)) (top_of n (cap / 64) ls k) r
+      → layers_fault cap n (length ls) ≡ 0 → (i : ℕ) → Highest n (cap / 64) ls k i → r ≡ Ok i
   -- 8 is the answer only if neither 1 nor 2 is and no layer has k ids
-  pub eight_is_too_few : (cap n k : ℕ) (ls : List ℕ) (r : Chosen) → ChosenIs (layers_fault cap n (length ls)) (top_of n (cap / 64) ls k) r
-      → r ≡ Refused 8 → (layers_fault cap n (length ls) ≡ 0) × TooFew n (cap / 64) ls k
+  pub eight_is_too_few : (cap n k : ℕ) (ls : List ℕ) (r : Result ℕ Refusal) → ChosenIs (layers_fault cap n (length ls)) (top_of n (cap / 64) ls k) r
+      → code_of r ≡ 8 → (layers_fault cap n (length ls) ≡ 0) × TooFew n (cap / 64) ls k
   -- and then it is
-  pub too_few_is_eight : (cap n k : ℕ) (ls : List ℕ) (r : Chosen) → ChosenIs (layers_fault cap n (length ls)) (top_of n (cap / 64) ls k) r
-      → layers_fault cap n (length ls) ≡ 0 → TooFew n (cap / 64) ls k → r ≡ Refused 8
+  pub too_few_is_eight : (cap n k : ℕ) (ls : List ℕ) (r : Result ℕ Refusal) → ChosenIs (layers_fault cap n (length ls)) (top_of n (cap / 64) ls k) r
+      → layers_fault cap n (length ls) ≡ 0 → TooFew n (cap / 64) ls k → code_of r ≡ 8
   -- search_k 0 picks the last layer, empty or not
-  pub zero_picks_last : (cap n : ℕ) (ls : List ℕ) (r : Chosen) → ChosenIs (layers_fault cap n (length ls)) (top_of n (cap / 64) ls 0) r
-      → layers_fault cap n (length ls) ≡ 0 → r ≡ Layer (n - 1)
+  pub zero_picks_last : (cap n : ℕ) (ls : List ℕ) (r : Result ℕ Refusal) → ChosenIs (layers_fault cap n (length ls)) (top_of n (cap / 64) ls 0) r
+      → layers_fault cap n (length ls) ≡ 0 → r ≡ Ok (n - 1)
   -- ---- the part that is handed back
   -- it is the highest layer with k ids,
   pub part_of_highest : (cap n k : ℕ) (ls : List ℕ) → layers_fault cap n (length ls) ≡ 0 → (i : ℕ) → Highest n (cap / 64) ls k i

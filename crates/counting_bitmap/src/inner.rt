@@ -4,19 +4,12 @@ ghost use Rattle.counting_bitmap.specs.Layers.{Carried, merged, fallen, counts_o
 ghost use Rattle.counting_bitmap.specs.TopLayer.{top_of, part_of};
 ghost use Rattle.counting_bitmap.specs.Answers.{layers_ok};
 
-use super::Top;
-
 // Whether the capacity is good and there are 1 to 32 layers.
+#[tactic(auto, unfolding(crate::specs::Answers::layers_ok))]
 pub fn layers_ok(cap: usize, n: usize) -> bool
     ensures { result ≡ layers_ok cap n }
 {
-    if !paper::capacity_ok(cap) {
-        return false;
-    }
-    if n < 1 {
-        return false;
-    }
-    n <= 32
+    paper::capacity_ok(cap) && 1 <= n && n <= 32
 }
 
 // One layer and the incoming set, in one pass: the layer becomes the union, and what they shared stays in the set to be carried on. The answer
@@ -72,7 +65,7 @@ pub fn cardinalities(layers: &[u64], n: usize, w: usize) -> [u32; 32]
 }
 
 // The number of the highest layer with at least search_k ids.
-pub fn top_layer(layers: &[u64], n: usize, w: usize, search_k: usize) -> Top
+pub fn top_layer(layers: &[u64], n: usize, w: usize, search_k: usize) -> Option<usize>
     requires { (length layers.now ≡ n * w) × (w ≤ 1024) }
     ensures { result ≡ top_of n w layers.now search_k }
 {
@@ -81,12 +74,12 @@ pub fn top_layer(layers: &[u64], n: usize, w: usize, search_k: usize) -> Top
     while 0 < i {
         let lower = at - w;
         if search_k <= bitmaps::inner::count(&layers[lower..at]) as usize {
-            return Top::Layer(i - 1);
+            return Some(i - 1);
         }
         i -= 1;
         at = lower;
     }
-    Top::Nothing
+    None
 }
 
 // The layer itself, and an empty part where there is none.
@@ -95,11 +88,11 @@ pub fn top_part(layers: &[u64], n: usize, w: usize, search_k: usize) -> &[u64]
     ensures { result.now ≡ part_of w layers.now (top_of n w layers.now search_k) }
 {
     match top_layer(layers, n, w, search_k) {
-        Top::Layer(i) => {
+        Some(i) => {
             let a = i * w;
             let e = a + w;
             &layers[a..e]
         }
-        Top::Nothing => &layers[0..0],
+        None => &layers[0..0],
     }
 }

@@ -1,8 +1,8 @@
 // What every crate of the index shares: the refusal numbers, the geometry and its test, and the length of each lent memory.
 #![tactic(auto)]
 
-ghost use Rattle.std.specs.Prelude.{◌≡◌};
-ghost use Rattle.paper.specs.Geometry.{cap_ok, mode_ok, geo_ok, comp_size, geo, lengths_of};
+ghost use Rattle.std.specs.Prelude.{◌≡◌, IfOk};
+ghost use Rattle.paper.specs.Geometry.{cap_ok, mode_ok, geo_ok, comp_size, geo, lengths_of, GeoFacts};
 ghost use Rattle.paper.specs.Choice.{refuse};
 ghost use Rattle.paper.specs.Laws.{Laws};
 ghost use Rattle.paper.specs.Refusals.{number_of, code_of};
@@ -131,8 +131,10 @@ impl Geometry {
     }
 
     /// Refuses a geometry that is out of range.
+    #[tactic(auto, using(crate::proofs::GeometryFacts::geo_facts))]
     pub fn check(self) -> Result<(), Refusal>
-        ensures { code_of result ≡ refuse 1 (geo_ok self.d self.n self.cap self.mode) 0 }
+        ensures told { code_of result ≡ refuse 1 (geo_ok self.d self.n self.cap self.mode) 0 }
+        ensures good { IfOk result (λ _. GeoFacts self.d self.n self.cap self.mode) }
     {
         if !self.is_ok() {
             return Err(Refusal::WrongGeometry);

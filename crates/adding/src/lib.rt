@@ -21,17 +21,12 @@ struct Slots {
 // ---- tests
 
 // Whether bases, work memory and vector have their lengths.
+#[tactic(auto, unfolding(crate::specs::Adding::lent_ok))]
 fn lent_lengths_ok(d: usize, n: usize, bases: usize, work: usize, v: usize) -> bool
     requires { (d ≤ 1024) × (n ≤ 32) }
     ensures { result ≡ lent_ok d n bases work v }
 {
-    if !index_memory::inner::bases_length_ok(d, n, bases) {
-        return false;
-    }
-    if work != d {
-        return false;
-    }
-    v == d
+    index_memory::inner::bases_length_ok(d, n, bases) && work == d && v == d
 }
 
 // 1, 2 and 3 in their order, or 0.
@@ -62,24 +57,12 @@ fn shape_refusal(
 
 // ---- the parts of an addition
 
-// Copies the vector.
-fn copy_into(v: &[f32], work: &mut [f32])
-    requires { length work.old ≡ length v.now }
-    ensures { work.new ≡ v.now }
-{
-    let mut i = 0;
-    while i < v.len() {
-        work[i] = v[i];
-        i += 1;
-    }
-}
-
 // The vector normalised, in the work memory; or the refusal of normalising.
 fn normalize_into(v: &[f32], work: &mut [f32]) -> u32
     requires { length work.old ≡ length v.now }
     ensures { (result ≡ norm_number v.now) × (work.new ≡ normalized v.now) }
 {
-    copy_into(v, work);
+    work.copy_from_slice(v);
     vector::normalize(work)
 }
 
@@ -91,9 +74,8 @@ fn slots_of(bases: &[f32], v: &[f32], work: &mut [f32], d: usize, n: usize) -> S
 {
     let square = d * d;
     let mut slots = [0usize; 32];
-    let mut b = 0;
-    let mut p = 0;
-    while b < n {
+    for b in 0..n {
+        let p = b * square;
         basis::inner::project(&bases[p..p + square], v, work);
         if !vector::all_finite(work) {
             return Slots {
@@ -102,8 +84,6 @@ fn slots_of(bases: &[f32], v: &[f32], work: &mut [f32], d: usize, n: usize) -> S
             };
         }
         slots[b] = faces::inner::slot(work);
-        p += square;
-        b += 1;
     }
     Slots { refusal: 0, slots }
 }
@@ -113,10 +93,8 @@ fn add_to_bitmaps(faces: &mut [u64], slots: [usize; 32], d: usize, n: usize, cap
     requires { FaceArgs d n cap id (length faces.old) slots }
     ensures { faces.new ≡ with_faces d cap id (λ b. get_or slots b 0) n faces.old }
 {
-    let mut b = 0;
-    while b < n {
+    for b in 0..n {
         bitmaps::inner::add(faces, (b * (2 * d) + slots[b]) * cap + id);
-        b += 1;
     }
 }
 
@@ -126,10 +104,8 @@ fn put_components(vectors: &mut [u8], work: &[f32], at: usize, mode: usize)
     ensures { vectors.new ≡ sets vectors.old at (lower_bytes mode work.now) }
 {
     let size = paper::component_size(mode);
-    let mut i = 0;
-    while i < work.len() {
-        quantization::inner::put_component(vectors, at + size * i, work[i], mode);
-        i += 1;
+    for (i, x) in work.iter().enumerate() {
+        quantization::inner::put_component(vectors, at + size * i, *x, mode);
     }
 }
 

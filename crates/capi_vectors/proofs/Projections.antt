@@ -18,7 +18,6 @@ use Rattle.faces.specs.Answer as FaceAnswers
 use Rattle.faces.specs.Answer.{face_number, Spilling, spill_of}
 use Rattle.faces.specs.Slots.{face_of, faces_of, after_of, picks_of}
 use Rattle.faces.specs.declared.FaceAnswer.{FaceAnswer}
-use Rattle.faces.specs.declared.FaceAnswer.TheVariants as FaceAnswer
 use Rattle.faces.proofs.Slots.{picks_within}
 use Rattle.capi_vectors.specs.Single.{Single, single, kept, into_one, laid_over}
 use Rattle.capi_vectors.specs.Projections.{dims_ok, face_into, number_put, face_put, Spilt, spilt, into_faces, spill_into}

@@ -35,23 +35,17 @@ pub fn put_face(answer: FaceAnswer, out: &mut [i32]) -> u32
 }
 
 // Whether a projection has 1 to 1,024 entries.
+#[tactic(auto, unfolding(crate::specs::Projections::dims_ok))]
 pub fn dims_ok(d: usize) -> bool
     ensures { result ≡ dims_ok d }
 {
-    if d < 1 {
-        return false;
-    }
-    d <= 1024
+    1 <= d && d <= 1024
 }
 
 // The first n of `from` over the first n of `to`.
-pub fn copy_faces(from: &[i32], n: usize, to: &mut [i32])
+pub fn copy_front<T: Copy>(from: &[T], n: usize, to: &mut [T])
     requires { (n ≤ length from.now) × (n ≤ length to.old) }
     ensures { to.new ≡ laid_over n from.now to.old }
 {
-    let mut i = 0;
-    while i < n {
-        to[i] = from[i];
-        i += 1;
-    }
+    to[..n].copy_from_slice(&from[..n]);
 }

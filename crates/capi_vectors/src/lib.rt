@@ -11,7 +11,7 @@ ghost use Rattle.ortho.specs.Ortho.{written, orthonormalized};
 ghost use Rattle.capi_vectors.specs.Single.{single, into_one};
 ghost use Rattle.capi_vectors.specs.Projections.{face_into, spilt, spill_into};
 
-mod inner;
+pub mod inner;
 
 // ---- vectors and bases
 
@@ -90,6 +90,6 @@ pub extern "C" fn bbq_spill_faces(projection: &mut [f32], spill: usize, out: &mu
         return spilled.refusal;
     }
     let count = spilled.count;
-    inner::copy_faces(&spilled.faces, count, out);
+    inner::copy_front(&spilled.faces, count, out);
     0
 }

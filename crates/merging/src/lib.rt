@@ -16,12 +16,10 @@ fn share_nothing(a: &[u64], b: &[u64]) -> bool
     requires { length a.now ≡ length b.now }
     ensures { result ≡ is_empty (shared a.now b.now) }
 {
-    let mut i = 0;
-    while i < a.len() {
+    for i in 0..a.len() {
         if a[i] & b[i] != 0 {
             return false;
         }
-        i += 1;
     }
     true
 }
@@ -31,11 +29,7 @@ fn copy_slot(vectors: &mut [u8], from: &[u8], at: usize, size: usize)
     requires { (at + size ≤ length vectors.old) × (length from.now ≡ length vectors.old) }
     ensures { vectors.new ≡ sets vectors.old at (take size (drop at from.now)) }
 {
-    let mut j = 0;
-    while j < size {
-        vectors[at + j] = from[at + j];
-        j += 1;
-    }
+    vectors[at..at + size].copy_from_slice(&from[at..at + size]);
 }
 
 // Copies the slots of the marked ids, and no others.
@@ -44,16 +38,9 @@ fn copy_present(vectors: &mut [u8], from: &[u8], marks: &[u64], size: usize)
     ensures { vectors.new ≡ copied size (length marks.now * 64) marks.now from.now vectors.old }
 {
     let mut at = 0;
-    loop {
-        match bitmaps::inner::next(marks, at) {
-            Found::At(i) => {
-                copy_slot(vectors, from, i * size, size);
-                at = i + 1;
-            }
-            Found::Nothing => {
-                return;
-            }
-        }
+    while let Found::At(i) = bitmaps::inner::next(marks, at) {
+        copy_slot(vectors, from, i * size, size);
+        at = i + 1;
     }
 }
 

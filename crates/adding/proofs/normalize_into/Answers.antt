@@ -5,6 +5,6 @@ use Rattle.adding.proofs.normalize_into.Goals as goal
 
 pub returns : goal.returns
 returns c = (
-  ap (λ (x : Normal). x.refusal) c.normalize.ensures ∙ ap norm_number c.copy_into.ensures,
-  ap (λ (x : Normal). x.vector) c.normalize.ensures ∙ ap normalized c.copy_into.ensures,
+  ap (λ (x : Normal). x.refusal) c.normalize.ensures ∙ ap norm_number c.copy_from_slice.ensures.after,
+  ap (λ (x : Normal). x.vector) c.normalize.ensures ∙ ap normalized c.copy_from_slice.ensures.after,
 )

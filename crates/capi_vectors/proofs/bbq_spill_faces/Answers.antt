@@ -13,11 +13,11 @@ returns-then-out-projection c = spill_length c.args.spill c.args.projection.now 
 pub returns-then-spilled-ne0 : goal.returns-then-spilled-ne0
 returns-then-spilled-ne0 c = spill_refused c.args.spill c.args.projection.now c.args.out.now _ (sym c.dims_ok.ensures ∙ c.if-not-dims_ok.false) c.if-out-projection.false c.spill_faces-spilled.ensures c.if-spilled-ne0.true
 
-pub copy_faces-requires : goal.copy_faces-requires
-copy_faces-requires c =
+pub copy_front-requires : goal.copy_front-requires
+copy_front-requires c =
     let n = count_fits c.args.spill c.args.projection.now c.args.out.now _ c.spill_faces-spilled.ensures in
     let d = dims_high _ (sym c.dims_ok.ensures ∙ c.if-not-dims_ok.false) in
     (omega (arith, n, d), omega (arith, n))
 
 pub returns : goal.returns
-returns c = spill_done c.args.spill c.args.projection.now c.args.out.now _ _ (sym c.dims_ok.ensures ∙ c.if-not-dims_ok.false) c.if-out-projection.false c.spill_faces-spilled.ensures c.if-spilled-ne0.false c.copy_faces.ensures
+returns c = spill_done c.args.spill c.args.projection.now c.args.out.now _ _ (sym c.dims_ok.ensures ∙ c.if-not-dims_ok.false) c.if-out-projection.false c.spill_faces-spilled.ensures c.if-spilled-ne0.false c.copy_front.ensures

@@ -53,11 +53,8 @@ loop-i-preserved c =
       c.copy_slot.ensures ∙ copy_turn a.size a.marks.now a.from.now a.vectors.now c.loop-i.at c.in-At.i c.loop-i.vectors g.0 g.2 g.3 c.loop-i.invariant.2,
     )
 
-pub shape_of-vectors-in-Nothing : goal.shape_of-vectors-in-Nothing
-shape_of-vectors-in-Nothing c = c.loop-i.invariant.1
-
-pub returns-in-Nothing : goal.returns-in-Nothing
-returns-in-Nothing c =
+pub returns : goal.returns
+returns c =
     let a = c.args in
-    let n : NextIs a.marks.now c.loop-i.at Nothing = rw c.in-Nothing.is at c.next.ensures in
+    let n : NextIs a.marks.now c.loop-i.at Nothing = rw c.in_default.is at c.next.ensures in
     copy_end a.size a.marks.now a.from.now a.vectors.now c.loop-i.at (length a.marks.now * 64) c.loop-i.vectors c.loop-i.invariant.0 n c.loop-i.invariant.2

@@ -15,10 +15,10 @@ loop-b-init c = refl
 pub add-requires : goal.add-requires
 add-requires c =
     let a = c.args in
-    let p = face_bit_low a.d a.n a.cap c.loop-b.b (get_or a.slots c.loop-b.b 0) a.id c.requires.cap_even c.loop-b-test.true (c.requires.low c.loop-b.b c.loop-b-test.true) c.requires.id_low in
-    subst (λ (k : ℕ). face_bit a.d a.cap c.loop-b.b (get_or a.slots c.loop-b.b 0) a.id < k * 64) (sym (c.loop-b.auto.faces ∙ c.requires.faces)) p
+    let p = face_bit_low a.g.d a.g.n a.g.cap c.loop-b.b (get_or a.slots c.loop-b.b 0) a.id c.requires.cap_even c.loop-b-test.true (c.requires.low c.loop-b.b c.loop-b-test.true) c.requires.id_low in
+    subst (λ (k : ℕ). face_bit a.g.d a.g.cap c.loop-b.b (get_or a.slots c.loop-b.b 0) a.id < k * 64) (sym (c.loop-b.auto.faces ∙ c.requires.faces)) p
 
 pub loop-b-preserved : goal.loop-b-preserved
 loop-b-preserved c =
     let a = c.args in
-    c.add.ensures ∙ with_more a.d a.cap a.id (λ j. get_or a.slots j 0) c.loop-b.b a.faces.now _ c.loop-b.invariant
+    c.add.ensures ∙ with_more a.g.d a.g.cap a.id (λ j. get_or a.slots j 0) c.loop-b.b a.faces.now _ c.loop-b.invariant

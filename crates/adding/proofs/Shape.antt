@@ -11,7 +11,6 @@ use Rattle.paper.specs.Refusals.{number_of}
 use Rattle.paper.specs.declared.Refusal.{Refusal}
 use Rattle.paper.proofs.Answering.{number_low}
 use Rattle.paper.proofs.Choice.{and_l, and_r, refuse_ok, refuse_rest}
-use Rattle.paper.proofs.GeometryFacts.{geo_facts}
 use Rattle.index_memory.specs.Memory.{own_ok, bases_ok, own_refusal}
 use Rattle.index_memory.proofs.Lengths.{own_sized, bases_long, own_tests, own_first}
 use Rattle.adding.specs.Adding.{lent_ok, lengths_ok, add_shape, Shaped}

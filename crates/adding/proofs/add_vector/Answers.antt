@@ -15,4 +15,4 @@ returns-then-not-all_finite c = five_refused _ _ _ _ _ _ c.in_ok-check_shape.ens
 pub returns : goal.returns
 returns c =
     late_done _ _ _ _ _ _ _ _ _ c.in_ok-check_shape.ensures.told (sym c.all_finite.ensures ∙ c.if-not-all_finite.false) c.check_and_write-answer.ensures.told c.check_and_write-answer.ensures.index
-    (c.fill.ensures ∙ ap (λ (k : ℕ). float_zeros k) c.check_and_write-answer.auto.work)
+    (c.fill.ensures.after (λ y h. h) ∙ ap (λ (k : ℕ). float_zeros k) c.check_and_write-answer.auto.work)

@@ -18,12 +18,12 @@ returns-in_err-normalize_into-clause-index c =
 pub returns-in_err-slots-clause-told : goal.returns-in_err-slots-clause-told
 returns-in_err-slots-clause-told c =
     let a = c.args in
-    let e : c.from_residual.result ≡ Err c.in_err-slots.field-0.0 = search rules in
+    let e : c.from_residual-in_err-slots.result ≡ Err c.in_err-slots.field-0.0 = search rules in
     rw e (late_seven a.g.d a.g.n a.bases.now a.v.now _ c.in_ok-normalize_into.ensures.0 c.in_err-slots.ensures.told)
 
 pub returns-in_err-slots-clause-index : goal.returns-in_err-slots-clause-index
 returns-in_err-slots-clause-index c =
-    let e : c.from_residual.result ≡ Err c.in_err-slots.field-0.0 = search rules in
+    let e : c.from_residual-in_err-slots.result ≡ Err c.in_err-slots.field-0.0 = search rules in
     rw e (sym (kept_by c.in_err-slots.field-0.0 _ _))
 
 pub write-requires : goal.write-requires
@@ -35,7 +35,7 @@ write-requires c =
       faces = s.faces;
       marks = s.marks;
       vectors = s.vectors;
-      work = c.slots_of-slots.auto.work ∙ c.normalize_into.auto.work ∙ s.work;
+      work = c.slots_of.auto.work ∙ c.normalize_into.auto.work ∙ s.work;
       vector = s.vector;
       id_low = s.id_low;
       low = λ (b : ℕ) (l : b < a.g.n). subst (λ (k : ℕ). k < 2 * a.g.d) (sym (c.in_ok-slots.ensures.found b l)) (face_slot_low a.g.d a.bases.now a.v.now b s.vector s.facts.d_low);

@@ -18,18 +18,18 @@ returns-then-not-lent_lengths_ok-clause-told c =
     let a = c.args in
     lent_refused a.g a.id a.bases a.faces a.marks a.vectors a.work a.v c.in_ok-check_own.ensures.told (sym c.lent_lengths_ok.ensures ∙ c.if-not-lent_lengths_ok.true)
 
-pub returns-then-cap-id-clause-told : goal.returns-then-cap-id-clause-told
-returns-then-cap-id-clause-told c =
+pub returns-then-g-id-clause-told : goal.returns-then-g-id-clause-told
+returns-then-g-id-clause-told c =
     let a = c.args in
-    rw (le-ltb _ _ c.if-cap-id.true) at (id_decides a.g a.id a.bases a.faces a.marks a.vectors a.work a.v c.in_ok-check_own.ensures.told (sym c.lent_lengths_ok.ensures ∙ c.if-not-lent_lengths_ok.false))
+    rw (le-ltb _ _ c.if-g-id.true) at (id_decides a.g a.id a.bases a.faces a.marks a.vectors a.work a.v c.in_ok-check_own.ensures.told (sym c.lent_lengths_ok.ensures ∙ c.if-not-lent_lengths_ok.false))
 
 pub returns-clause-told : goal.returns-clause-told
 returns-clause-told c =
     let a = c.args in
-    rw (lt-ltb _ _ c.if-cap-id.false) at (id_decides a.g a.id a.bases a.faces a.marks a.vectors a.work a.v c.in_ok-check_own.ensures.told (sym c.lent_lengths_ok.ensures ∙ c.if-not-lent_lengths_ok.false))
+    rw (lt-ltb _ _ c.if-g-id.false) at (id_decides a.g a.id a.bases a.faces a.marks a.vectors a.work a.v c.in_ok-check_own.ensures.told (sym c.lent_lengths_ok.ensures ∙ c.if-not-lent_lengths_ok.false))
 
 pub returns-clause-shaped : goal.returns-clause-shaped
 returns-clause-shaped c =
     let a = c.args in
-    let t = rw (lt-ltb _ _ c.if-cap-id.false) at (id_decides a.g a.id a.bases a.faces a.marks a.vectors a.work a.v c.in_ok-check_own.ensures.told (sym c.lent_lengths_ok.ensures ∙ c.if-not-lent_lengths_ok.false)) in
+    let t = rw (lt-ltb _ _ c.if-g-id.false) at (id_decides a.g a.id a.bases a.faces a.marks a.vectors a.work a.v c.in_ok-check_own.ensures.told (sym c.lent_lengths_ok.ensures ∙ c.if-not-lent_lengths_ok.false)) in
     shaped a.g a.id _ _ _ _ _ _ (sym t)

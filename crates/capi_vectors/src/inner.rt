@@ -1,36 +1,21 @@
 // What the calls share: the test of a projection's length, and writing an answer into its place.
 ghost use Rattle.std.specs.Prelude.{◌≡◌, ◌≤◌, length};
-ghost use Rattle.capi_vectors.specs.Single.{single, laid_over};
-ghost use Rattle.capi_vectors.specs.Projections.{dims_ok, number_put, face_put};
+ghost use Rattle.capi_vectors.specs.Single.{single, put, laid_over};
+ghost use Rattle.capi_vectors.specs.Projections.{dims_ok};
 
-use faces::FaceAnswer;
-use vector::Number;
+use paper::Refusal;
 
-// A number into its place; a refusal keeps it. The answer is the refusal.
-pub fn put_number(answer: Number, out: &mut [f32]) -> u32
+// One value into its place; a refusal keeps it. The answer is the refusal's number.
+pub fn put_one<T: Copy>(answer: Result<T, Refusal>, out: &mut [T]) -> u32
     requires { length out.old ≡ 1 }
-    ensures { single result out.new ≡ number_put answer out.old }
+    ensures { single result out.new ≡ put answer out.old }
 {
     match answer {
-        Number::Value(x) => {
+        Ok(x) => {
             out[0] = x;
             0
         }
-        Number::Refused(num) => num,
-    }
-}
-
-// A face into its place; a refusal keeps it.
-pub fn put_face(answer: FaceAnswer, out: &mut [i32]) -> u32
-    requires { length out.old ≡ 1 }
-    ensures { single result out.new ≡ face_put answer out.old }
-{
-    match answer {
-        FaceAnswer::Face(f) => {
-            out[0] = f;
-            0
-        }
-        FaceAnswer::Refused(num) => num,
+        Err(refusal) => refusal.into(),
     }
 }
 

@@ -14,9 +14,8 @@ use Rattle.bitmaps.specs.Walk.{ids_of, listed, RisesFrom}
 use Rattle.bitmaps.proofs.Ids.{ids_once, ids_rising}
 use Rattle.result.specs.Lists.{all_of, Each, none, more, Some, here, later}
 use Rattle.result.specs.Ranked.{Entry, held_e, larger, fed_list, NewTo, Apart, Outcome}
-use Rattle.result.specs.Sets.{entries_of, empty_set, fed_set}
+use Rattle.result.specs.Sets.{Fed, entries_of, empty_set, fed_set}
 use Rattle.result.specs.declared.ResultSet.{ResultSet}
-use Rattle.result.specs.declared.Fed.{Fed}
 use Rattle.result.proofs.Keeps.{empty_checked, empty_k, entries_none}
 use Rattle.result.proofs.Grown.{all_checked, all_entries}
 use Rattle.result.proofs.Order.{larger_one_way}

@@ -7,16 +7,16 @@ use mathlib.Core.List.{List}
 use lib.Dec.{leb, eqb}
 use lib.Ieee.{Float}
 use lib.ListN.{length}
-use borrow.Author.Tests.{ne_eqb, leb-true, eqb-true, eqb-false}
-use Rattle.paper.specs.Geometry.{Geo, geo_ok, vector_bytes}
+use borrow.Author.Tests.{leb-true, eqb-true, eqb-false}
+use Rattle.std.proofs.Common.{◌≤◌}
+use Rattle.paper.specs.Geometry.{Geo, GeoFacts, geo_ok, vector_bytes}
 use Rattle.paper.proofs.Choice.{refuse_ok, refuse_rest}
 use Rattle.paper.proofs.GeometryFacts.{geo_facts}
 use Rattle.index_memory.specs.Memory.{store_ok, slot_bytes}
 use Rattle.index_memory.proofs.Lengths.{store_sized}
 use Rattle.paper.specs.Choice.{pick}
-use Rattle.result.specs.declared.Fed.{Fed}
 use Rattle.result.specs.Ranked.{larger, in_order, Outcome}
-use Rattle.result.specs.Sets.{entries_of}
+use Rattle.result.specs.Sets.{Fed, entries_of}
 use Rattle.result.proofs.Keeps.{Sound, sound_empty}
 use Rattle.bitmaps.specs.Words.{has, size}
 use Rattle.bitmaps.proofs.Digits.{Words}
@@ -40,36 +40,34 @@ not4 e = omega arith
 pub bytes_by : (lv d cap mode lm lt : ℕ) → lv ≡ vector_bytes d cap mode → cap ≡ lm * 64 → lt ≡ d → lv ≡ lm * 64 * slot_bytes lt mode
 bytes_by lv d cap mode lm lt e q p = e ∙ ap (λ (z : ℕ). z * slot_bytes d mode) q ∙ ap (λ (z : ℕ). lm * 64 * slot_bytes z mode) (sym p)
 
-module _ (g : Geo) (ms vs : List ℕ) (t : List Float) (k : ℕ) where
-  pub scan_refused : (num : ℕ) (r : Fed) → num ≡ scan_refusal g (length ms) (length vs) t k → (num ≡ 0 → ⊥) → r ≡ refused num → r ≡ scan_of g ms vs t k
-  unfolding scan_of
-  scan_refused num r e h q = rw (← e, ne_eqb num 0 h) q
+-- what ranking asks of the lengths, from what the tests of a scan say
+pub args_sized : (g : Geo) (lm lv lt k : ℕ) → GeoFacts g.d g.n g.cap g.mode → store_ok g.d g.cap g.mode lm lv ≡ true → lt ≡ g.d → k ≤ 256
+    → RankArgs g.mode k lm lm lv lt
+args_sized g lm lv lt k G ok d h =
+    let S = store_sized g.d g.cap g.mode lm lv ok in
+    let c : g.cap ≡ lm * 64 = omega (arith, S.marks, G.cap_even) in
+    record {
+      k_high = h;
+      set = omega (arith, S.marks, G.cap_high);
+      marks = refl;
+      d_low = omega (arith, d, G.d_low);
+      d_high = omega (arith, d, G.d_high);
+      vectors = bytes_by lv g.d g.cap g.mode lm lt S.vecs c d;
+    }
 
-  pub scan_done : (r : Fed) → scan_refusal g (length ms) (length vs) t k ≡ 0 → r ≡ nearest_of g.mode k ms vs t → r ≡ scan_of g ms vs t k
-  unfolding scan_of
-  scan_done r e q = rw e q
-
-  pub scan_args : scan_refusal g (length ms) (length vs) t k ≡ 0 → RankArgs g.mode k (length ms) (length ms) (length vs) (length t)
-  unfolding scan_refusal
-  scan_args e =
-      let ok1 = geo_ok g.d g.n g.cap g.mode in
-      let ok2 = store_ok g.d g.cap g.mode (length ms) (length vs) in
-      let ok3 = eqb (length t) g.d in
-      let r1 = refuse_rest ok1 1 _ not1 e in
-      let r2 = refuse_rest ok2 2 _ not2 r1 in
-      let r3 = refuse_rest ok3 2 _ not2 r2 in
-      let G = geo_facts g.d g.n g.cap g.mode (refuse_ok ok1 1 _ not1 e) in
-      let S = store_sized g.d g.cap g.mode (length ms) (length vs) (refuse_ok ok2 2 _ not2 r1) in
-      let d : length t ≡ g.d = eqb-true _ _ (refuse_ok ok3 2 _ not2 r2) in
-      let c : g.cap ≡ length ms * 64 = omega (arith, S.marks, G.cap_even) in
-      record {
-        k_high = leb-true _ _ (refuse_ok (leb k 256) 4 _ not4 r3);
-        set = omega (arith, S.marks, G.cap_high);
-        marks = refl;
-        d_low = omega (arith, d, G.d_low);
-        d_high = omega (arith, d, G.d_high);
-        vectors = bytes_by (length vs) g.d g.cap g.mode (length ms) (length t) S.vecs c d;
-      }
+-- the same of a scan that is not refused
+scan_args : (g : Geo) (ms vs : List ℕ) (t : List Float) (k : ℕ) → scan_refusal g (length ms) (length vs) t k ≡ 0
+    → RankArgs g.mode k (length ms) (length ms) (length vs) (length t)
+unfolding scan_refusal
+scan_args g ms vs t k e =
+    let ok1 = geo_ok g.d g.n g.cap g.mode in
+    let ok2 = store_ok g.d g.cap g.mode (length ms) (length vs) in
+    let ok3 = eqb (length t) g.d in
+    let r1 = refuse_rest ok1 1 _ not1 e in
+    let r2 = refuse_rest ok2 2 _ not2 r1 in
+    let r3 = refuse_rest ok3 2 _ not2 r2 in
+    args_sized g (length ms) (length vs) (length t) k (geo_facts g.d g.n g.cap g.mode (refuse_ok ok1 1 _ not1 e)) (refuse_ok ok2 2 _ not2 r1)
+    (eqb-true _ _ (refuse_ok ok3 2 _ not2 r2)) (leb-true _ _ (refuse_ok (leb k 256) 4 _ not4 r3))
 
 -- ---- what a scan answers
 

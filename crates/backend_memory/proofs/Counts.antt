@@ -13,9 +13,8 @@ use Rattle.bitmaps.specs.Walk.{ids_in, ids_of, keep}
 use Rattle.bitmaps.proofs.Digits.{Words}
 use Rattle.bitmaps.proofs.Ids.{ids_size}
 use Rattle.result.specs.Ranked.{larger, in_order}
-use Rattle.result.specs.Sets.{empty_set, entries_of, fed_set, fed_all}
+use Rattle.result.specs.Sets.{Fed, empty_set, entries_of, fed_set, fed_all}
 use Rattle.result.specs.declared.ResultSet.{ResultSet}
-use Rattle.result.specs.declared.Fed.{Fed}
 use Rattle.result.proofs.Keeps.{empty_checked, Sound, sound_empty, sound_fed}
 use Rattle.result.proofs.Grown.{all_checked, grown_order}
 use Rattle.backend_memory.specs.Ranking.{refused, scored, ranking, rank_of, feeding, nearest_of, similarity_of}

@@ -8,9 +8,8 @@ use lib.ListN.{length, get_or}
 use Rattle.bitmaps.specs.Words.{has}
 use Rattle.bitmaps.specs.Walk.{ids_in, ids_of, keep}
 use Rattle.result.specs.Ranked.{Entry, larger}
-use Rattle.result.specs.Sets.{entries_of, empty_set, fed_set}
+use Rattle.result.specs.Sets.{Fed, entries_of, empty_set, fed_set}
 use Rattle.result.specs.declared.ResultSet.{ResultSet}
-use Rattle.result.specs.declared.Fed.{Fed}
 use Rattle.result.proofs.Keeps.{entries_fed, entries_none}
 use Rattle.result.proofs.Outcomes.{each_fed}
 use Rattle.backend_memory.specs.Ranking.{scored, ranking, rank_of, similarity_of}

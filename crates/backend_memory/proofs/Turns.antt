@@ -4,6 +4,7 @@ use native.Mathlib.Omega.{arith}
 use mathlib.Core.Path.{◌≡◌, refl, sym, ap, ◌∙◌}
 use mathlib.Core.Bool.{true, false}
 use mathlib.Core.List.{List}
+use Rattle.std.proofs.Common.{Some, None}
 use lib.Dec.{eqb, leb}
 use lib.Ieee.{Float, nan, inf, fin, is_nan, binary32, of_bits, to_bits, lt}
 use lib.ListN.{length, get_or}
@@ -11,7 +12,6 @@ use Rattle.paper.proofs.Choice.{and_l, and_r}
 use Rattle.index_memory.specs.Memory.{slot_bytes}
 use Rattle.bitmaps.specs.Words.{holds}
 use Rattle.bitmaps.specs.Walk.{NextIs, ids_from}
-use Rattle.bitmaps.specs.declared.Found.TheVariants.{At, Nothing}
 use Rattle.bitmaps.proofs.Ids.{walk_start, walk_on, walk_end}
 use Rattle.sqrt.specs.RootOf.{root_of, root}
 use Rattle.sqrt.proofs.Order.{below_root}
@@ -26,11 +26,11 @@ use Rattle.result.proofs.Keeps.{entries_none, sound_empty, sound_fed, fed_k, fed
 use Rattle.backend_memory.specs.Ranking.{similarity_of, refused, scored, ranking, rank_of}
 
 module _ (ms s : List ℕ) (f : ℕ → Float) (cur : ResultSet) (at : ℕ) where
-  pub ended : NextIs s at Nothing → answer 0 cur ≡ ranking ms f cur (ids_from s at)
+  pub ended : NextIs s at None → answer 0 cur ≡ ranking ms f cur (ids_from s at)
   unfolding ranking
   ended g = rw (walk_end s at g)
 
-  module _ (i : ℕ) (g : NextIs s at (At i)) where
+  module _ (i : ℕ) (g : NextIs s at (Some i)) where
     pub no_mark : holds ms i ≡ false → refused 9 ≡ ranking ms f cur (ids_from s at)
     unfolding ranking
     no_mark h = rw (walk_on s at i g, h)
@@ -105,7 +105,7 @@ module _ (mode k : ℕ) (ids ms vs : List ℕ) (t : List Float) where
   }
 
   -- an id that is fed: what the list was closed to, it stays closed to
-  pub ranked_on : (cur next : ResultSet) (at bar i : ℕ) → Ranked mode k ids ms vs t cur at bar → NextIs ids at (At i) → holds ms i ≡ true
+  pub ranked_on : (cur next : ResultSet) (at bar i : ℕ) → Ranked mode k ids ms vs t cur at bar → NextIs ids at (Some i) → holds ms i ≡ true
       → is_nan (similarity_of mode vs t i) ≡ false → next ≡ fed_set cur (scored (similarity_of mode vs t) i) → Ranked mode k ids ms vs t next (i + 1) bar
   ranked_on cur next at bar i r g h n e =
       let x = scored (similarity_of mode vs t) i in

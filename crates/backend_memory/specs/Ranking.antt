@@ -9,9 +9,8 @@ use Rattle.vector.specs.Fold.{squares_of}
 use Rattle.sqrt.specs.RootOf.{root}
 use Rattle.quantization.specs.Stored.{components}
 use Rattle.result.specs.Ranked.{Entry, entry}
-use Rattle.result.specs.Sets.{empty_set, fed_set, answer}
+use Rattle.result.specs.Sets.{Fed, empty_set, fed_set, answer}
 use Rattle.result.specs.declared.ResultSet.{ResultSet}
-use Rattle.result.specs.declared.Fed.{Fed}
 
 -- the score of an id: the distance of the target, as given, from the components that the id's slot holds
 unfoldable pub similarity_of : ℕ → List ℕ → List Float → ℕ → Float

@@ -4,7 +4,7 @@ use Rattle.paper.specs.Choice.{pick, refuse}
 use Rattle.paper.specs.Geometry.{Geo, geo_ok}
 use Rattle.index_memory.specs.Memory.{store_ok}
 use Rattle.vector.specs.Finite.{all_finite}
-use Rattle.result.specs.declared.Fed.{Fed}
+use Rattle.result.specs.Sets.{Fed}
 use Rattle.backend_memory.specs.Ranking.{refused, nearest_of}
 
 -- 1, 2, 4 and 5 in their order, or 0; lm and lv are the lengths of marks and vectors

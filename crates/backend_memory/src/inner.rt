@@ -3,23 +3,16 @@ ghost use Rattle.std.specs.Prelude.{◌≡◌, ◌+◌, ◌*◌, ◌<◌, ◌≤
 ghost use Rattle.paper.specs.Geometry.{comp_size};
 ghost use Rattle.bitmaps.specs.Words.{holds};
 ghost use Rattle.sqrt.specs.RootOf.{root};
-ghost use Rattle.vector.specs.Fold.{dist_step, squares_of};
+ghost use Rattle.vector.specs.Fold.{squares_of};
 ghost use Rattle.quantization.specs.Stored.{components};
-ghost use Rattle.backend_memory.specs.Ranking.{refused, rank_of, nearest_of, RankArgs};
+ghost use Rattle.result.specs.Sets.{empty_set, fed_or};
+ghost use Rattle.backend_memory.specs.Ranking.{rank_of, nearest_of, RankArgs};
 
-use bitmaps::Found;
-use result::{Fed, ResultSet};
+use paper::Refusal;
+use result::ResultSet;
 
 // The sign's bit of a pattern: the patterns below it are in the order of their values.
 const SIGN: u32 = 0x8000_0000;
-
-// One component's share of a distance.
-fn step(sum: f32, x: f32, y: f32) -> f32
-    ensures { result ≡ dist_step sum x y }
-{
-    let diff = x - y;
-    sum + diff * diff
-}
 
 // The sum of the squared differences of the target and the vector stored from byte `at` on, read from its bytes without a copy of it.
 pub fn squares(vectors: &[u8], target: &[f32], mode: usize, at: usize) -> f32
@@ -30,7 +23,8 @@ pub fn squares(vectors: &[u8], target: &[f32], mode: usize, at: usize) -> f32
     let mut sum: f32 = 0.0;
     let mut p = at;
     for x in target {
-        sum = step(sum, *x, quantization::inner::component(vectors, p, mode));
+        let gap = *x - quantization::inner::component(vectors, p, mode);
+        sum = sum + gap * gap;
         p += size;
     }
     sum
@@ -52,16 +46,6 @@ pub fn vector_exists(marks: &[u64], id: usize) -> bool
     bitmaps::inner::contains(marks, id)
 }
 
-// A refused list: empty, with k 0 and checked 0.
-pub fn refuse(num: u32) -> Fed
-    ensures { result ≡ refused num }
-{
-    Fed {
-        refusal: num,
-        set: result::inner::empty(0),
-    }
-}
-
 // Feeds the ids of the set, by rising id, each with its distance from the target. The first fault decides: 9 for an id that has no mark, 10 for a score that is NaN.
 pub fn rank(
     ids: &[u64],
@@ -70,9 +54,9 @@ pub fn rank(
     target: &[f32],
     mode: usize,
     k: usize,
-) -> Fed
+) -> Result<ResultSet, Refusal>
     requires { RankArgs mode k (length ids.now) (length marks.now) (length vectors.now) (length target.now) }
-    ensures { result ≡ rank_of mode k ids.now marks.now vectors.now target.now }
+    ensures { fed_or (empty_set 0) result ≡ rank_of mode k ids.now marks.now vectors.now target.now }
 {
     let slot = paper::component_size(mode) * target.len();
     // the list in its parts, so that no set is moved about
@@ -84,9 +68,9 @@ pub fn rank(
     // Most candidates meet a full list with a greater last score: they are only counted. Every sum whose bits are below `bar` has such a root, since a
     // smaller sum has no greater root and the last score never falls; so that root is not taken.
     let mut bar: u32 = 0;
-    while let Found::At(id) = bitmaps::inner::next(ids, at) {
+    while let Some(id) = bitmaps::inner::next(ids, at) {
         if !vector_exists(marks, id) {
-            return refuse(paper::NO_MARK);
+            return Err(Refusal::NoMark);
         }
         let sum = squares(vectors, target, mode, id * slot);
         let bits = sqrt::bits_of(sum);
@@ -95,7 +79,7 @@ pub fn rank(
         if bits >= bar {
             let similarity = compute_similarity(sum);
             if similarity.is_nan() {
-                return refuse(paper::NAN_SCORE);
+                return Err(Refusal::NanScore);
             }
             if result::inner::closed_to(&sims, len, k, similarity) {
                 bar = bits % SIGN;
@@ -104,20 +88,25 @@ pub fn rank(
             }
         }
     }
-    let set = ResultSet {
+    Ok(ResultSet {
         ids: list,
         sims,
         len,
         k,
         checked,
-    };
-    Fed { refusal: 0, set }
+    })
 }
 
 // Feeds every present id: each has its mark, so that 9 never comes.
-pub fn find_nearest(marks: &[u64], vectors: &[u8], target: &[f32], mode: usize, k: usize) -> Fed
+pub fn find_nearest(
+    marks: &[u64],
+    vectors: &[u8],
+    target: &[f32],
+    mode: usize,
+    k: usize,
+) -> Result<ResultSet, Refusal>
     requires { RankArgs mode k (length marks.now) (length marks.now) (length vectors.now) (length target.now) }
-    ensures { result ≡ nearest_of mode k marks.now vectors.now target.now }
+    ensures { fed_or (empty_set 0) result ≡ nearest_of mode k marks.now vectors.now target.now }
 {
     rank(marks, marks, vectors, target, mode, k)
 }

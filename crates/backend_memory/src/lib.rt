@@ -2,65 +2,60 @@
 // Marks say which ids are present, and the vector of id i is the i-th slot of the bytes.
 #![tactic(auto)]
 
-ghost use Rattle.std.specs.Prelude.{◌≡◌};
-ghost use Rattle.paper.specs.Geometry.{geo};
+ghost use Rattle.std.specs.Prelude.{◌≡◌, length, IfOk};
+ghost use Rattle.paper.specs.Refusals.{code_of};
+ghost use Rattle.result.specs.Sets.{empty_set, fed_or};
+ghost use Rattle.backend_memory.specs.Ranking.{RankArgs};
 ghost use Rattle.backend_memory.specs.Scan.{scan_refusal, scan_of};
 ghost use Rattle.backend_memory.specs.Laws.{Laws};
 
-use result::Fed;
+use paper::{Geometry, Refusal};
+use result::ResultSet;
 
 pub mod inner;
 
-// The first of the refusals 1, 2, 4 and 5 that a scan gives, or 0.
-fn scan_refusal(
+// Refuses a scan with the first of 1, 2, 4 and 5 that is due.
+#[tactic(auto, unfolding(crate::specs::Scan::scan_refusal))]
+fn check_scan(
     target: &[f32],
-    d: usize,
-    n: usize,
-    cap: usize,
-    mode: usize,
+    g: Geometry,
     k: usize,
     marks: usize,
     vectors: usize,
-) -> u32
-    ensures { result ≡ scan_refusal (geo d n cap mode) marks vectors target.now k }
+) -> Result<(), Refusal>
+    ensures told { code_of result ≡ scan_refusal g marks vectors target.now k }
+    ensures sized { IfOk result (λ _. RankArgs g.mode k marks marks vectors (length target.now)) }
 {
-    if !paper::geometry_ok(d, n, cap, mode) {
-        return paper::WRONG_GEOMETRY;
+    g.check()?;
+    if !index_memory::inner::store_lengths_ok(g, marks, vectors) {
+        return Err(Refusal::WrongLength);
     }
-    if !index_memory::inner::store_lengths_ok(d, cap, mode, marks, vectors) {
-        return paper::WRONG_LENGTH;
-    }
-    if target.len() != d {
-        return paper::WRONG_LENGTH;
+    if target.len() != g.d {
+        return Err(Refusal::WrongLength);
     }
     if k > 256 {
-        return paper::WRONG_K;
+        return Err(Refusal::WrongK);
     }
     if !vector::all_finite(target) {
-        return paper::NOT_FINITE;
+        return Err(Refusal::NotFinite);
     }
-    0
+    Ok(())
 }
 
-// Ranks every present id, by rising id, into a list of at most k. Refuses 1, 2, 4, 5, and 10 for a score that is NaN; a refused list is empty, with k 0 and checked 0.
-// It writes to no lent memory.
+// Ranks every present id, by rising id, into a list of at most k. Refuses 1, 2, 4, 5, and 10 for a score that is NaN: what the paper answers then is an empty list, with
+// k 0 and checked 0. It writes to no lent memory.
+#[tactic(auto, unfolding(crate::specs::Scan::scan_of))]
 pub fn full_table_scan(
     marks: &[u64],
     vectors: &[u8],
     target: &[f32],
-    d: usize,
-    n: usize,
-    cap: usize,
-    mode: usize,
+    g: Geometry,
     k: usize,
-) -> Fed
-    ensures { result ≡ scan_of (geo d n cap mode) marks.now vectors.now target.now k }
+) -> Result<ResultSet, Refusal>
+    ensures { fed_or (empty_set 0) result ≡ scan_of g marks.now vectors.now target.now k }
 {
-    let num = scan_refusal(target, d, n, cap, mode, k, marks.len(), vectors.len());
-    if num != 0 {
-        return inner::refuse(num);
-    }
-    inner::find_nearest(marks, vectors, target, mode, k)
+    check_scan(target, g, k, marks.len(), vectors.len())?;
+    inner::find_nearest(marks, vectors, target, g.mode, k)
 }
 
 // The laws of this crate, claimed: specs/Laws.antt says each of them.

@@ -7,7 +7,10 @@ use mathlib.Core.Bool.{Bool, true, false}
 use mathlib.Core.List.{List, ◌∷◌}
 use lib.Ieee.{Float}
 use lib.ListN.{length, take, drop, length-replicate}
+use Rattle.std.specs.Prelude.{Err}
 use Rattle.paper.specs.Choice.{refuse}
+use Rattle.paper.specs.Refusals.{number_of}
+use Rattle.paper.specs.declared.Refusal.{Refusal}
 use Rattle.index_memory.proofs.Places.{part_is}
 use Rattle.bitmaps.specs.Words.{size}
 use Rattle.bitmaps.proofs.Size.{size_le}
@@ -17,8 +20,7 @@ use Rattle.vector.specs.Finite.{all_finite}
 use Rattle.basis.specs.Project.{projected}
 use Rattle.basis.specs.Bases.{basis_at, projection_at}
 use Rattle.faces.specs.Slots.{slots}
-use Rattle.candidates.specs.Gathering.{joined, union_of, faces_at, Query, target_on, target_finite, union_at, unions_from, layers_of, dropped_of, BasisIs, GatherIs}
-use Rattle.candidates.specs.declared.Gathered.{Gathered}
+use Rattle.candidates.specs.Gathering.{joined, union_of, faces_at, Query, target_on, target_finite, union_at, unions_from, layers_of, dropped_of, BasisIs, GatherIs, Gathered, gathered}
 
 -- a product, where the factors' names change
 pub times_by : (x a b a' b' : ℕ) → x ≡ a * b → a' ≡ a → b' ≡ b → x ≡ a' * b'
@@ -91,9 +93,8 @@ module _ (q : Query) (n b : ℕ) (h : b < n) where
   dropped_more ls ls' e = rw (unions_more, e)
 
 module _ (q : Query) (n : ℕ) where
-  pub gather_stopped : (ls : List ℕ) → target_finite q n ≡ false → GatherIs n q (record { refusal = 7; dropped = 0 }) ls
-  gather_stopped ls e =
-      record { answer = rw e; layers = λ (z : ◌≡◌ {A = ℕ} 7 0). absurd (omega arith); dropped = λ (z : ◌≡◌ {A = ℕ} 7 0). absurd (omega arith) }
+  pub gather_stopped : (e : Refusal) (ls : List ℕ) → target_finite q n ≡ false → number_of e ≡ 7 → GatherIs n q (gathered (Err e)) ls
+  gather_stopped e ls f s = record { answer = rw f s; layers = λ (z : number_of e ≡ 0). absurd (omega arith); dropped = λ (z : number_of e ≡ 0). absurd (omega arith) }
 
   pub gather_ended : (b : ℕ) (ls : List ℕ) (total : ℕ) → n ≤ b → b ≤ n
       → target_finite q b ≡ true

@@ -1,9 +1,9 @@
 // Gathering, for the search: each call says what it needs of the lengths.
 ghost use Rattle.std.specs.Prelude.{◌≡◌, length};
 ghost use Rattle.faces.specs.Slots.{slots};
-ghost use Rattle.candidates.specs.Gathering.{joined, query_of, SpillArgs, BasisArgs, BasisIs, GatherArgs, GatherIs};
+ghost use Rattle.candidates.specs.Gathering.{joined, query_of, SpillArgs, BasisArgs, BasisIs, GatherArgs, GatherIs, gathered};
 
-use super::Gathered;
+use paper::Refusal;
 
 // Joins the face sets of `picks` picks of the projection to the set. Each pick leaves +0.0 in the picked entry's place.
 fn spill_into(faces: &[u64], work: &mut [f32], set: &mut [u64], picks: usize)
@@ -28,26 +28,19 @@ fn gather_basis(
     set: &mut [u64],
     n: usize,
     picks: usize,
-) -> Gathered
+) -> Result<u32, Refusal>
     requires { BasisArgs n (length basis.now) (length faces.now) (length target.now) (length work.old) (length layers.old) (length set.old) }
-    ensures { BasisIs n (length set.old) picks basis.now faces.now target.now layers.old result layers.new }
+    ensures { BasisIs n (length set.old) picks basis.now faces.now target.now layers.old (gathered result) layers.new }
 {
     basis::inner::project(basis, target, work);
     if !vector::all_finite(work) {
-        return Gathered {
-            refusal: paper::NO_PROJECTION,
-            dropped: 0,
-        };
+        return Err(Refusal::NoProjection);
     }
     bitmaps::inner::clear(set);
     spill_into(faces, work, set, picks);
     let w = set.len();
     counting_bitmap::inner::merge(layers, n, w, set);
-    let dropped = bitmaps::inner::count(set);
-    Gathered {
-        refusal: 0,
-        dropped,
-    }
+    Ok(bitmaps::inner::count(set))
 }
 
 // All n bases, from emptied layers: 7, or the layers as the unions make them. What is left in work and set is for the caller to clear.
@@ -60,9 +53,9 @@ pub fn gather(
     set: &mut [u64],
     n: usize,
     picks: usize,
-) -> Gathered
+) -> Result<u32, Refusal>
     requires { GatherArgs n (length bases.now) (length faces.now) (length target.now) (length work.old) (length layers.old) (length set.old) }
-    ensures { GatherIs n (query_of bases.now faces.now target.now (length set.old) picks) result layers.new }
+    ensures { GatherIs n (query_of bases.now faces.now target.now (length set.old) picks) (gathered result) layers.new }
 {
     let square = target.len() * target.len();
     let block = 2 * target.len() * set.len();
@@ -71,7 +64,7 @@ pub fn gather(
     for b in 0..n {
         let p = b * square;
         let f = b * block;
-        let one = gather_basis(
+        let dropped = gather_basis(
             &bases[p..p + square],
             &faces[f..f + block],
             target,
@@ -80,17 +73,8 @@ pub fn gather(
             set,
             n,
             picks,
-        );
-        if one.refusal != 0 {
-            return Gathered {
-                refusal: paper::NO_PROJECTION,
-                dropped: 0,
-            };
-        }
-        total += one.dropped;
+        )?;
+        total += dropped;
     }
-    Gathered {
-        refusal: 0,
-        dropped: total,
-    }
+    Ok(total)
 }

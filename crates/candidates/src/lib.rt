@@ -6,13 +6,6 @@ ghost use Rattle.candidates.specs.Laws.{Laws};
 
 pub mod inner;
 
-// A refusal, 0 or 7, and how many ids fell off the last layer.
-#[derive(Clone, Copy)]
-pub struct Gathered {
-    pub refusal: u32,
-    pub dropped: u32,
-}
-
 // The laws of this crate, claimed: specs/Laws.antt says each of them.
 pub fn laws()
     ensures { Laws }

@@ -24,7 +24,7 @@ loop-x-preserved c =
     let a = c.args in
     let e : c.loop-x.p + c.component_size-size.result ≡ c.loop-x.p + comp_size a.mode = ap (λ (n : ℕ). c.loop-x.p + n) c.component_size-size.ensures in (
       e ∙ next_place c.loop-x.x-index (comp_size a.mode) a.at c.loop-x.p c.loop-x.invariant.0,
-      sym (squares_step a.mode a.at a.target.now a.vectors.now c.loop-x.sum c.step-sum.result c.loop-x.x-index c.loop-x.p c.loop-x-test.true c.loop-x.invariant.0 (c.step-sum.ensures ∙ ap (λ (z : Float). dist_step c.loop-x.sum (get_or a.target.now c.loop-x.x-index nan) z) c.component.ensures)) ∙ c.loop-x.invariant.1,
+      sym (squares_step a.mode a.at a.target.now a.vectors.now c.loop-x.sum _ c.loop-x.x-index c.loop-x.p c.loop-x-test.true c.loop-x.invariant.0 (ap (λ (z : Float). dist_step c.loop-x.sum (get_or a.target.now c.loop-x.x-index nan) z) c.component.ensures)) ∙ c.loop-x.invariant.1,
     )
 
 pub returns : goal.returns

@@ -1,12 +1,17 @@
 -- `candidates::inner::gather` meets its contract: the layers so far, and the unions of the bases that are left, make the whole layers. Assumes nothing.
 use native.Mathlib.Omega.{arith}
 use Prim.Native.Nat.{◌-◌, ◌*◌}
-use mathlib.Core.Path.{◌≡◌, refl, ◌∙◌, ap}
+use mathlib.Core.Path.{◌≡◌, refl, ◌∙◌, ap, sym}
 use lib.ListN.{length}
 use Rattle.index_memory.proofs.Places.{part_end}
 use Rattle.counting_bitmap.specs.Layers.{empty}
 use Rattle.basis.proofs.Bases.{finite_none, finite_more, finite_no}
-use Rattle.candidates.specs.Gathering.{Query, query_of, layers_of, dropped_of}
+use Rattle.std.proofs.Common.{rules, Err}
+use Rattle.paper.specs.Choice.{refuse}
+use Rattle.paper.specs.Refusals.{code_of, value_or, number_of}
+use Rattle.paper.proofs.Answering.{number_low}
+use Rattle.vector.specs.Finite.{all_finite}
+use Rattle.candidates.specs.Gathering.{Query, query_of, layers_of, dropped_of, gathered, target_on}
 use Rattle.candidates.proofs.Bases.{was_finite, was_not, one_answer, one_layers, one_dropped, merged_more, dropped_more, gather_stopped, gather_ended}
 use Rattle.candidates.proofs.inner.gather.Goals as goal
 
@@ -22,32 +27,37 @@ pub slice_bounds-gather_basis-end-in-loop-b : goal.slice_bounds-gather_basis-end
 slice_bounds-gather_basis-end-in-loop-b c =
     omega (arith, part_end c.loop-b.b c.args.n (2 * length c.args.target.now * length c.args.set.now) _ c.args.faces.now c.loop-b-test.true refl c.requires.faces)
 
-pub returns-then-one-ne0 : goal.returns-then-one-ne0
-returns-then-one-ne0 c =
+pub returns-in_err-dropped : goal.returns-in_err-dropped
+returns-in_err-dropped c =
     let a = c.args in
     let l = c.loop-b in
-    let g = c.gather_basis-one in
+    let g = c.gather_basis in
     let q : Query = query_of a.bases.now a.faces.now a.target.now (length a.set.now) a.picks in
-    let ans = one_answer q a.n l.b _ _ (length l.set) l.layers g.new.layers g.result refl refl l.auto.set g.ensures in
-    gather_stopped q a.n g.new.layers (finite_no _ _ _ a.n l.b c.loop-b-test.true (was_not _ _ ans c.if-one-ne0.true))
+    let ans = one_answer q a.n l.b _ _ (length l.set) l.layers g.new.layers (gathered g.result) refl refl l.auto.set g.ensures in
+    let e = c.in_err-dropped.field-0.0 in
+    let out : c.from_residual.result ≡ Err e = search rules in
+    let told : number_of e ≡ refuse 7 (all_finite (target_on q l.b)) 0 = ap code_of (sym c.in_err-dropped.was) ∙ ans in
+    let bad = was_not _ _ told (λ z. let low = number_low e in omega (arith, z)) in
+    rw out (gather_stopped q a.n e g.new.layers (finite_no _ _ _ a.n l.b c.loop-b-test.true bad) (rw bad at told))
 
 pub loop-b-preserved : goal.loop-b-preserved
 loop-b-preserved c =
     let a = c.args in
     let l = c.loop-b in
-    let g = c.gather_basis-one in
+    let g = c.gather_basis in
     let q : Query = query_of a.bases.now a.faces.now a.target.now (length a.set.now) a.picks in
     let ls' = g.new.layers in
-    let ok = c.if-one-ne0.false in
-    let ans = one_answer q a.n l.b _ _ (length l.set) l.layers ls' g.result refl refl l.auto.set g.ensures in
-    let lay = one_layers q a.n l.b _ _ (length l.set) l.layers ls' g.result refl refl l.auto.set g.ensures ok in
-    let drp = one_dropped q a.n l.b _ _ (length l.set) l.layers ls' g.result refl refl l.auto.set g.ensures ok in
+    let ok : code_of g.result ≡ 0 = ap code_of c.in_ok-dropped.was in
+    let dr : value_or 0 g.result ≡ c.in_ok-dropped.dropped = ap (value_or 0) c.in_ok-dropped.was in
+    let ans = one_answer q a.n l.b _ _ (length l.set) l.layers ls' (gathered g.result) refl refl l.auto.set g.ensures in
+    let lay = one_layers q a.n l.b _ _ (length l.set) l.layers ls' (gathered g.result) refl refl l.auto.set g.ensures ok in
+    let drp = one_dropped q a.n l.b _ _ (length l.set) l.layers ls' (gathered g.result) refl refl l.auto.set g.ensures ok in
     let mm = merged_more q a.n l.b c.loop-b-test.true l.layers ls' lay in
     let dm = dropped_more q a.n l.b c.loop-b-test.true l.layers ls' lay in (
-      omega (arith, g.ensures.few, l.invariant.0),
+      omega (arith, dr, g.ensures.few, l.invariant.0),
       finite_more _ _ _ l.b l.invariant.1 (was_finite _ _ ans ok),
       mm ∙ l.invariant.2,
-      omega (arith, drp, dm, l.invariant.3),
+      omega (arith, dr, drp, dm, l.invariant.3),
     )
 
 pub returns : goal.returns

@@ -43,7 +43,7 @@ returns c =
     let fin = ap all_finite (sym c.project.ensures) ∙ sym c.all_finite.ensures ∙ c.if-not-all_finite.false in
     let un = union_is a.picks w a.faces.now _ c.project.new.work c.clear.new.a u c.clear.ensures c.project.ensures c.spill_into.ensures in
     let words = words_fallen a.n (length u) a.layers.now u (rw same c.requires.layers) refl (subst Words (sym un) (words_of_union a.picks w a.faces.now _ (λ i. (c.type_inv.faces i).fits))) in
-    let few = few_of c.count-dropped.result c.merge.new.cur (subst Words (sym c.merge.ensures.1) words) (omega (arith, c.requires.w_high, c.merge.auto.cur, same)) c.count-dropped.ensures in
-    basis_good a.n w a.picks a.basis.now a.faces.now a.target.now a.layers.now c.merge.new.layers c.count-dropped.result u fin few un
+    let few = few_of c.count.result c.merge.new.cur (subst Words (sym c.merge.ensures.1) words) (omega (arith, c.requires.w_high, c.merge.auto.cur, same)) c.count.ensures in
+    basis_good a.n w a.picks a.basis.now a.faces.now a.target.now a.layers.now c.merge.new.layers c.count.result u fin few un
     (c.merge.ensures.0 ∙ ap (λ (k : ℕ). merged a.n k a.layers.now u) same)
-    (c.count-dropped.ensures ∙ ap size (c.merge.ensures.1 ∙ ap (λ (k : ℕ). fallen a.n k a.layers.now u) same))
+    (c.count.ensures ∙ ap size (c.merge.ensures.1 ∙ ap (λ (k : ℕ). fallen a.n k a.layers.now u) same))

@@ -74,12 +74,6 @@ word_put s at size n h l =
 
 -- ---- writing, a byte at a time: what is still to be stored
 
-pub put_start : (s : List ℕ) (at size n : ℕ) → sets s (at + 0) (le_bytes (size - 0) n) ≡ sets s at (le_bytes size n)
-put_start s at size n =
-    let e : at + 0 ≡ at = omega arith in
-    let f : size - 0 ≡ size = omega arith in
-    rw (e, f)
-
 pub put_step : (s : List ℕ) (at size j n : ℕ) → j < size
     → sets (set s (at + j) (n % 256)) (at + (j + 1)) (le_bytes (size - (j + 1)) (n / 256)) ≡ sets s (at + j) (le_bytes (size - j) n)
 unfolding le_bytes

@@ -71,6 +71,9 @@ lowered_tie b h k = lowered_number b h ∙ at_eq (b / 65536) (b % 65536 * 2) 655
 pub lowered_down : (b : ℕ) → b % 2147483648 ≤ 2139095040 → b % 65536 < 32768 → lowered b ≡ b / 65536
 lowered_down b h k = lowered_number b h ∙ at_lt (b / 65536) (b % 65536 * 2) 65536 (omega arith)
 
+-- all four
+pub ruleset lowering = (lowered_nan, lowered_up, lowered_tie, lowered_down)
+
 -- the three cases of a pattern that is no NaN, in one
 pub record Rounds (b h : ℕ) : Type 0 where
   pub up : 32768 < b % 65536 → h ≡ b / 65536 + 1

@@ -47,6 +47,8 @@ pub decoded_two : (mode n : ℕ) → (mode ≡ 0 → ⊥) → decoded mode n ≡
 unfolding decoded
 decoded_two mode n e = simp (ne_eqb mode 0 e)
 
+pub ruleset two_modes = (comp_four, comp_two, encoded_four, encoded_two, decoded_four, decoded_two)
+
 -- what is stored has as many bytes as the component
 pub encoded_lt : (mode : ℕ) (x : Float) → T (fits binary32 x) → encoded mode x < 256 ^ comp_size mode
 encoded_lt mode x f = go (dec_lt mode 1)

@@ -74,15 +74,6 @@ lowered_down b h k = lowered_number b h ∙ at_lt (b / 65536) (b % 65536 * 2) 65
 -- all four
 pub ruleset lowering = (lowered_nan, lowered_up, lowered_tie, lowered_down)
 
--- the three cases of a pattern that is no NaN, in one
-pub record Rounds (b h : ℕ) : Type 0 where
-  pub up : 32768 < b % 65536 → h ≡ b / 65536 + 1
-  pub tie : b % 65536 ≡ 32768 → h ≡ b / 65536 + b / 65536 % 2
-  pub down : b % 65536 < 32768 → h ≡ b / 65536
-
-pub lowered_rounds : (b : ℕ) → b % 2147483648 ≤ 2139095040 → Rounds b (lowered b)
-lowered_rounds b h = record { up = lowered_up b h; tie = lowered_tie b h; down = lowered_down b h }
-
 -- a half is below 65536
 pub lowered_lt : (b : ℕ) → b < 4294967296 → lowered b < 65536
 lowered_lt b h = go (dec_le (b % 2147483648) 2139095040) (dec_lt (b % 65536) 32768) (dec_lt 32768 (b % 65536))

@@ -139,8 +139,8 @@ fn turn(
 
 // Reads all of standard input and prints what a run over it prints; it ends early where the run stops or where nothing more can be written.
 // What feed leaves of the input when it waits is less than a record (session's law part_short), so that there is always room to read more.
-// Every turn reads at least a byte, or empties a full buffer (its law moves), or ends the run: the turns that are counted down, as a loop has to
-// be seen to end, are never used up.
+// Every turn reads at least a byte, or empties a full buffer (its law moves), or ends the run: the count of turns, by which the loop is
+// seen to end, is never used up.
 pub fn run(rt: HostRuntime) {
     let stdin = rt.stdin();
     let mut store = steps::start();
@@ -148,9 +148,7 @@ pub fn run(rt: HostRuntime) {
     let mut out = [0u8; 65536];
     let mut from = 0;
     let mut end = 0;
-    let mut turns = u64::MAX;
-    while turns > 0 {
-        turns -= 1;
+    for _ in 0..u64::MAX {
         let t = turn(stdin, &mut input, from, end, store, &mut out);
         if !t.goes {
             return;

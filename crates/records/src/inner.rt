@@ -23,11 +23,7 @@ pub fn floats_at(s: &[u8], from: usize, out: &mut [f32])
     requires { from + 4 * length out.old ≤ length s.now }
     ensures { out.new ≡ floats_at (length out.old) s.now from }
 {
-    let mut i = 0;
-    let mut at = from;
-    while i < out.len() {
-        out[i] = sqrt::of_bits(u32_at(s, at));
-        at += 4;
-        i += 1;
+    for i in 0..out.len() {
+        out[i] = sqrt::of_bits(u32_at(s, from + 4 * i));
     }
 }

@@ -28,13 +28,6 @@ pub enum Request {
     Search(u32, u32, u32),
 }
 
-// A byte as a number of 32 bits.
-fn wide(b: u8) -> u32
-    ensures { result ≡ b }
-{
-    b as u32
-}
-
 // Whether the numbers lie within the program's limits, so that its memory has room.
 fn within_limits(g: Session) -> bool
     ensures { result ≡ within_limits g }
@@ -80,7 +73,7 @@ fn geometry_of(s: &[u8], g: Session) -> Request
     let d = inner::u16_at(s, 2);
     let n = inner::u16_at(s, 4);
     let cap = inner::u32_at(s, 6);
-    let mode = wide(s[10]);
+    let mode = u32::from(s[10]);
     if !geometry_fits(d, n, cap, mode) {
         return Request::Refuse(1);
     }

@@ -2,4 +2,3 @@ pub mod Frames
 pub mod Runs
 pub mod Feeds
 pub mod Whole
-pub mod Keeps

@@ -45,6 +45,7 @@ pub fn feed(
     let mut g = start;
     let mut i = 0;
     let mut p = 0;
+    // No `for`: how many records there are shows only as their lengths are read, and they stop where out is full.
     while 5184 <= out.len() - p {
         let n = match front(&input[i..]) {
             Frame::Part => {
@@ -89,10 +90,5 @@ pub fn keep(buf: &mut [u8], from: usize, end: usize)
     requires { (from ≤ end) × (end ≤ length buf.old) }
     ensures { take (end - from) buf.new ≡ take (end - from) (drop from buf.old) }
 {
-    let n = end - from;
-    let mut i = 0;
-    while i < n {
-        buf[i] = buf[from + i];
-        i += 1;
-    }
+    buf.copy_within(from..end, 0);
 }

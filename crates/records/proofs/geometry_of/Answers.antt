@@ -12,8 +12,8 @@ returns-then-s-ne11 c = simp (eq-eqb _ _ c.if-g-ne0.false, ne_eqb _ _ c.if-s-ne1
 
 pub returns-then-not-geometry_fits : goal.returns-then-not-geometry_fits
 unfolding geometry_of
-returns-then-not-geometry_fits c = simp (eq-eqb _ _ c.if-g-ne0.false, eq-eqb _ _ c.if-s-ne11.false, ← c.u16_at-d.ensures.0, ← c.u16_at-n.ensures.0, ← c.u32_at-cap.ensures, ← c.wide-mode.ensures, ← c.geometry_fits.ensures, c.if-not-geometry_fits.true)
+returns-then-not-geometry_fits c = simp (eq-eqb _ _ c.if-g-ne0.false, eq-eqb _ _ c.if-s-ne11.false, ← c.u16_at-d.ensures.0, ← c.u16_at-n.ensures.0, ← c.u32_at-cap.ensures, ← c.from-mode.ensures, ← c.geometry_fits.ensures, c.if-not-geometry_fits.true)
 
 pub returns : goal.returns
 unfolding geometry_of
-returns c = simp (eq-eqb _ _ c.if-g-ne0.false, eq-eqb _ _ c.if-s-ne11.false, ← c.u16_at-d.ensures.0, ← c.u16_at-n.ensures.0, ← c.u32_at-cap.ensures, ← c.wide-mode.ensures, ← c.geometry_fits.ensures, c.if-not-geometry_fits.false)
+returns c = simp (eq-eqb _ _ c.if-g-ne0.false, eq-eqb _ _ c.if-s-ne11.false, ← c.u16_at-d.ensures.0, ← c.u16_at-n.ensures.0, ← c.u32_at-cap.ensures, ← c.from-mode.ensures, ← c.geometry_fits.ensures, c.if-not-geometry_fits.false)

@@ -1,5 +1,6 @@
 -- The turns of the ranking loop, on plain values: one law for each way out of a turn. Assumes nothing.
-use Prim.Native.Nat.{ℕ, ◌+◌, ◌-◌, ◌*◌, ◌%◌, ◌<◌}
+use Prim.Native.Nat.{ℕ, ◌+◌, ◌-◌, ◌*◌, ◌%◌, ◌<◌, ◌≤◌}
+use native.Mathlib.Omega.{arith}
 use mathlib.Core.Path.{◌≡◌, refl, sym, ap, ◌∙◌}
 use mathlib.Core.Bool.{true, false}
 use mathlib.Core.List.{List}
@@ -11,15 +12,18 @@ use Rattle.index_memory.specs.Memory.{slot_bytes}
 use Rattle.bitmaps.specs.Words.{holds}
 use Rattle.bitmaps.specs.Walk.{NextIs, ids_from}
 use Rattle.bitmaps.specs.declared.Found.TheVariants.{At, Nothing}
-use Rattle.bitmaps.proofs.Ids.{walk_on, walk_end}
+use Rattle.bitmaps.proofs.Ids.{walk_start, walk_on, walk_end}
 use Rattle.sqrt.specs.RootOf.{root_of, root}
 use Rattle.sqrt.proofs.Order.{below_root}
 use Rattle.vector.specs.Fold.{squares_of}
 use Rattle.quantization.specs.Stored.{components}
 use Rattle.result.specs.Places.{full_above}
-use Rattle.result.specs.Sets.{fed_set, answer}
+use Rattle.result.specs.Ranked.{larger, in_order}
+use Rattle.result.specs.Sets.{entries_of, empty_set, fed_set, answer, Sound}
 use Rattle.result.specs.declared.ResultSet.{ResultSet}
-use Rattle.backend_memory.specs.Ranking.{similarity_of, refused, scored, ranking}
+use Rattle.result.proofs.Closed.{order_fed, closed_stays}
+use Rattle.result.proofs.Keeps.{entries_none, sound_empty, sound_fed, fed_k, fed_checked, fed_within}
+use Rattle.backend_memory.specs.Ranking.{similarity_of, refused, scored, ranking, rank_of}
 
 module _ (ms s : List ℕ) (f : ℕ → Float) (cur : ResultSet) (at : ℕ) where
   pub ended : NextIs s at Nothing → answer 0 cur ≡ ranking ms f cur (ids_from s at)
@@ -74,3 +78,49 @@ closed_number len k sims x h = number x (get_or sims (len - 1) nan) (and_r (leb 
     number nan z h = sym h
     number (inf s) z h = refl
     number (fin s m e) z h = refl
+
+-- ---- the loop
+
+-- Where the ranking stands before the ids from `at` on: with the list as it is, what is left of the ids gives the whole answer.
+pub record Ranked (mode k : ℕ) (ids ms vs : List ℕ) (t : List Float) (cur : ResultSet) (at bar : ℕ) : Type 0 where
+  pub at_low : at ≤ length ids * 64
+  pub fits : cur.len ≤ cur.k
+  pub few : cur.checked ≤ at
+  pub sound : Sound cur
+  pub rest : ranking ms (similarity_of mode vs t) cur (ids_from ids at) ≡ rank_of mode k ids ms vs t
+  pub closed : ClosedBelow cur.len cur.k cur.sims bar
+  pub ordered : in_order larger (entries_of cur) ≡ true
+
+module _ (mode k : ℕ) (ids ms vs : List ℕ) (t : List Float) where
+  pub ranked_start : k ≤ 256 → Ranked mode k ids ms vs t (empty_set k) 0 0
+  unfolding rank_of in_order empty_set
+  ranked_start h = record {
+    at_low = omega arith;
+    fits = omega arith;
+    few = omega arith;
+    sound = sound_empty k h;
+    rest = rw walk_start;
+    closed = λ q l. absurd (omega arith);
+    ordered = ap (in_order larger) (entries_none k);
+  }
+
+  -- an id that is fed: what the list was closed to, it stays closed to
+  pub ranked_on : (cur next : ResultSet) (at bar i : ℕ) → Ranked mode k ids ms vs t cur at bar → NextIs ids at (At i) → holds ms i ≡ true
+      → is_nan (similarity_of mode vs t i) ≡ false → next ≡ fed_set cur (scored (similarity_of mode vs t) i) → Ranked mode k ids ms vs t next (i + 1) bar
+  ranked_on cur next at bar i r g h n e =
+      let x = scored (similarity_of mode vs t) i in
+      rw e
+      (record {
+        at_low = omega (arith, g.1);
+        fits = rw (fed_k cur x) (fed_within cur x r.fits);
+        few = omega (arith, fed_checked cur x, r.few, g.0);
+        sound = sound_fed cur x r.sound n;
+        rest = one_fed ms ids (similarity_of mode vs t) cur at i g h n ∙ r.rest;
+        closed = λ q l. closed_stays cur x (of_bits binary32 (root_of q)) r.sound r.ordered n (r.closed q l);
+        ordered = order_fed cur x r.ordered;
+      })
+
+  -- the bar may stand wherever the list is closed below it
+  pub ranked_bar : (cur : ResultSet) (at bar bar' : ℕ) → Ranked mode k ids ms vs t cur at bar → ClosedBelow cur.len cur.k cur.sims bar' → Ranked mode k ids ms vs t cur at bar'
+  ranked_bar cur at bar bar' r c =
+      record { at_low = r.at_low; fits = r.fits; few = r.few; sound = r.sound; rest = r.rest; closed = c; ordered = r.ordered }

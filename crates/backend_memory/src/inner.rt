@@ -29,15 +29,9 @@ pub fn squares(vectors: &[u8], target: &[f32], mode: usize, at: usize) -> f32
     let size = paper::component_size(mode);
     let mut sum: f32 = 0.0;
     let mut p = at;
-    let mut i = 0;
-    while i < target.len() {
-        sum = step(
-            sum,
-            target[i],
-            quantization::inner::component(vectors, p, mode),
-        );
+    for x in target {
+        sum = step(sum, *x, quantization::inner::component(vectors, p, mode));
         p += size;
-        i += 1;
     }
     sum
 }
@@ -90,42 +84,34 @@ pub fn rank(
     // Most candidates meet a full list with a greater last score: they are only counted. Every sum whose bits are below `bar` has such a root, since a
     // smaller sum has no greater root and the last score never falls; so that root is not taken.
     let mut bar: u32 = 0;
-    loop {
-        match bitmaps::inner::next(ids, at) {
-            Found::At(id) => {
-                if !vector_exists(marks, id) {
-                    return refuse(paper::NO_MARK);
-                }
-                let sum = squares(vectors, target, mode, id * slot);
-                let bits = sqrt::bits_of(sum);
-                at = id + 1;
-                checked += 1;
-                if bits >= bar {
-                    let similarity = compute_similarity(sum);
-                    if similarity != similarity {
-                        return refuse(paper::NAN_SCORE);
-                    }
-                    if result::inner::closed_to(&sims, len, k, similarity) {
-                        bar = bits % SIGN;
-                    } else {
-                        len = result::inner::insert(
-                            &mut list, &mut sims, len, k, id as u32, similarity,
-                        );
-                    }
-                }
+    while let Found::At(id) = bitmaps::inner::next(ids, at) {
+        if !vector_exists(marks, id) {
+            return refuse(paper::NO_MARK);
+        }
+        let sum = squares(vectors, target, mode, id * slot);
+        let bits = sqrt::bits_of(sum);
+        at = id + 1;
+        checked += 1;
+        if bits >= bar {
+            let similarity = compute_similarity(sum);
+            if similarity.is_nan() {
+                return refuse(paper::NAN_SCORE);
             }
-            Found::Nothing => {
-                let set = ResultSet {
-                    ids: list,
-                    sims,
-                    len,
-                    k,
-                    checked,
-                };
-                return Fed { refusal: 0, set };
+            if result::inner::closed_to(&sims, len, k, similarity) {
+                bar = bits % SIGN;
+            } else {
+                len = result::inner::insert(&mut list, &mut sims, len, k, id as u32, similarity);
             }
         }
     }
+    let set = ResultSet {
+        ids: list,
+        sims,
+        len,
+        k,
+        checked,
+    };
+    Fed { refusal: 0, set }
 }
 
 // Feeds every present id: each has its mark, so that 9 never comes.

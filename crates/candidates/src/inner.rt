@@ -11,13 +11,10 @@ fn spill_into(faces: &[u64], work: &mut [f32], set: &mut [u64], picks: usize)
     ensures { set.new ≡ joined (length set.old) faces.now set.old (slots picks work.old) }
 {
     let w = set.len();
-    let mut i = 0;
-    while i < picks {
+    for i in 0..picks {
         let slot = faces::inner::pick(work);
         let a = slot * w;
-        let e = a + w;
-        bitmaps::inner::or(set, &faces[a..e]);
-        i += 1;
+        bitmaps::inner::or(set, &faces[a..a + w]);
     }
 }
 
@@ -70,11 +67,10 @@ pub fn gather(
     let square = target.len() * target.len();
     let block = 2 * target.len() * set.len();
     let mut total: u32 = 0;
-    let mut b = 0;
-    let mut p = 0;
-    let mut f = 0;
     bitmaps::inner::clear(layers);
-    while b < n {
+    for b in 0..n {
+        let p = b * square;
+        let f = b * block;
         let one = gather_basis(
             &bases[p..p + square],
             &faces[f..f + block],
@@ -92,9 +88,6 @@ pub fn gather(
             };
         }
         total += one.dropped;
-        p += square;
-        f += block;
-        b += 1;
     }
     Gathered {
         refusal: 0,

@@ -1,4 +1,4 @@
--- The answers of find_face_idx and of spilling. Assumes nothing.
+-- The answer of spilling. Assumes nothing.
 use Prim.Native.Nat.{ℕ, zero, suc, ◌-◌}
 use mathlib.Core.Path.{◌≡◌, sym, ◌∙◌, ap}
 use mathlib.Core.List.{List, ◌++◌}
@@ -10,12 +10,15 @@ use lib.IntN.{ℤ, pos}
 use lib.ListN.{length, drop, replicate}
 use lib.Ieee.{Float}
 use Rattle.paper.specs.Choice.{◌and◌}
+use Rattle.std.proofs.Common.{Result, Err}
+use Rattle.paper.specs.declared.Refusal.{Refusal}
+use Rattle.paper.specs.Refusals.{number_of}
+use Rattle.paper.proofs.Answering.{number_low}
 use Rattle.paper.proofs.Choice.{and_l, and_r, refuse_ok, refuse_rest}
 use Rattle.vector.specs.Finite.{all_finite}
 use Rattle.faces.specs.Slots.{faces_of, after_of, picks_of, HasFace}
-use Rattle.faces.specs.Answer.{face_number, FaceIs, spilling, spill_of}
-use Rattle.faces.specs.declared.FaceAnswer.{FaceAnswer}
-use Rattle.faces.specs.declared.FaceAnswer.TheVariants.{Face, Refused}
+use Rattle.faces.specs.Answer.{face_number, spilled, spilling, spill_of}
+use Rattle.faces.specs.declared.Spilled as Declared
 
 -- a projection that is not refused has a face
 pub has_face : (w : List Float) → face_number w ≡ 0 → HasFace w
@@ -29,21 +32,6 @@ has_face w h =
       finite = refuse_ok (all_finite w) 7 0 (λ e. omega arith) r;
     }
 
-module _ (num n : ℕ) (f g : ℤ) (e : n ≡ num) where
-  pub said_face : n ≡ 0 → g ≡ f → FaceIs (Face g) num f
-  said_face z p =
-      let q = eq-eqb num 0 (sym e ∙ z) in
-      record { refusal = sym z ∙ e; face = rw q p; case = rw q (ap Face p) }
-
-  pub said_refusal : (n ≡ 0 → ⊥) → FaceIs (Refused n) num f
-  said_refusal h =
-      let q = ne_eqb num 0 (λ z. h (e ∙ z)) in
-      record { refusal = e; face = rw q; case = rw q (ap Refused e) }
-
--- two answers to the same are equal
-pub one_answer : (r s : FaceAnswer) (num : ℕ) (f : ℤ) → FaceIs r num f → FaceIs s num f → r ≡ s
-one_answer r s num f p q = p.case ∙ sym q.case
-
 drop_zeros : (n m : ℕ) (z : ℤ) → drop n (replicate m z) ≡ replicate (m - n) z
 drop_zeros zero m z = ap (λ (k : ℕ). replicate k z) (sym (sub-zero m))
 drop_zeros (suc n) zero z = ap (λ (k : ℕ). replicate k z) (less n)
@@ -56,9 +44,11 @@ drop_zeros (suc n) (suc m) z = drop_zeros n m z ∙ ap (λ (k : ℕ). replicate 
     less n m = omega arith
 
 module _ (spill : ℕ) (w : List Float) where
-  pub spill_refused : (num : ℕ) → num ≡ face_number w → (num ≡ 0 → ⊥) → spilling (record { refusal = num; count = 0; faces = replicate 1024 (pos 0) }) w ≡ spill_of spill w
+  pub spill_refused : (answer : Result Declared.Spilled Refusal) (r : Refusal) → answer ≡ Err r → number_of r ≡ face_number w → spilling (spilled answer) w ≡ spill_of spill w
   unfolding spill_of
-  spill_refused num e h = rw (← e, ne_eqb num 0 h)
+  spill_refused answer r e f =
+      let low = number_low r in
+      rw (e, f, ne_eqb (face_number w) 0 (λ z. omega arith))
 
   pub spill_done : (n : ℕ) (v : List Float) (out : List ℤ) → face_number w ≡ 0 → n ≡ picks_of (length w) spill → v ≡ after_of n w → out ≡ faces_of n w ++ drop n (replicate 1024 (pos 0)) → spilling (record { refusal = 0; count = n; faces = out }) v ≡ spill_of spill w
   unfolding spill_of

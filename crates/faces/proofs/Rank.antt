@@ -11,6 +11,7 @@ use lib.IntN.{ℤ, pos, negsuc}
 use lib.Ieee.{Float, nan, inf, fin, binary32, up, down, fits, lt, eq, neg, of_bits, below, level}
 use lib.Ieee.Fits.{and_l, and_r, up_pos, down_pos}
 use borrow.Author.Tests.{ltb-true, ltb-false, leb-true, leb-false, eqb-true, eqb-false, lt-ltb, le-ltb, eq-eqb, ne_eqb}
+use Rattle.std.specs.Float.{float_with_sign}
 use Rattle.vector.specs.Finite.{is_finite}
 use Rattle.faces.specs.Best.{size_of, positive, beats}
 
@@ -147,6 +148,45 @@ module _ (s : Bool) (m : ℕ) (e : ℤ) (t : Bool) (n : ℕ) (d : ℤ) (X : T (f
       ap (λ (z : Float). eq z (size_of (fin t n d))) (size_is s m e) ∙ ap (eq (fin (kept s m) m e)) (size_is t n d)
       ∙ eq_fin
       ∙ cross_eqb (m * up e) (n * up d) (down e) (down d) (2 ^ 149) _ _ (down_pos e) (down_pos d) (lit< tt) (exact s m e X) (exact t n d Y)
+
+-- ---- what `abs` gives, whose zeros are above zero: no comparison sees the difference
+
+sized : Float → Float
+sized nan = nan
+sized (inf s) = inf false
+sized (fin s m e) = fin (kept s m) m e
+
+sized_is : (x : Float) → size_of x ≡ sized x
+unfolding sized lt neg of_bits
+sized_is nan = refl
+sized_is (inf true) = refl
+sized_is (inf false) = refl
+sized_is (fin s m e) = size_is s m e
+
+abs_lt : (x y : Float) → lt (float_with_sign false x) (float_with_sign false y) ≡ lt (sized x) (sized y)
+unfolding sized lt float_with_sign
+abs_lt nan y = refl
+abs_lt (inf s) nan = refl
+abs_lt (inf s) (inf t) = refl
+abs_lt (inf s) (fin t n d) = refl
+abs_lt (fin s m e) nan = refl
+abs_lt (fin s m e) (inf t) = refl
+abs_lt (fin s m e) (fin t n d) = sym (below_is (kept s m) (kept t n) _ _ (none s m (up e) (down d)) (none t n (up d) (down e)))
+
+abs_eq : (x y : Float) → eq (float_with_sign false x) (float_with_sign false y) ≡ eq (sized x) (sized y)
+unfolding sized eq float_with_sign
+abs_eq nan y = refl
+abs_eq (inf s) nan = refl
+abs_eq (inf s) (inf t) = refl
+abs_eq (inf s) (fin t n d) = refl
+abs_eq (fin s m e) nan = refl
+abs_eq (fin s m e) (inf t) = refl
+abs_eq (fin s m e) (fin t n d) =
+    and-true (eqb (m * up e * down d) (n * up d * down e)) ∙ sym (level_is (kept s m) (kept t n) _ _ (none s m (up e) (down d)) (none t n (up d) (down e)))
+
+pub beats_abs : (y x : Float) → beats y x ≡ (lt (float_with_sign false x) (float_with_sign false y) || (eq (float_with_sign false x) (float_with_sign false y) && (positive y && not (positive x))))
+unfolding beats
+beats_abs y x = rw (abs_lt x y, abs_eq x y, sized_is x, sized_is y)
 
 -- ---- the order
 

@@ -1,15 +1,15 @@
 -- The laws of this crate, which `laws` claims: what documents and the crates above lean on.
-use Rattle.std.specs.Prelude.{◌≡◌, List, map, ℕ, ◌*◌, ◌≤◌, ◌<◌, T, ℤ, length, get_or, take, Float}
+use Rattle.std.specs.Prelude.{◌≡◌, List, map, ℕ, ◌*◌, ◌≤◌, ◌<◌, T, ℤ, pos, Result, length, get_or, take, Float}
 use Rattle.std.specs.Float.{nan, binary32}
 use Rattle.std.specs.Float.Ieee.{fits}
-use Rattle.faces.specs.declared.FaceAnswer.{FaceAnswer}
+use Rattle.paper.specs.declared.Refusal.{Refusal}
+use Rattle.paper.specs.Refusals.{Answers}
 use Rattle.faces.specs.Best.{best_of, First}
 use Rattle.faces.specs.Slots.{face_of, slot_of_face, slot_of, picked_of, slots, faces_of, picks_of, HasFace}
-use Rattle.faces.specs.Answer.{FaceIs}
 
 pub record Laws : Type 0 where
   -- two answers to the same call are equal
-  pub one_answer : (r s : FaceAnswer) (num : ℕ) (f : ℤ) → FaceIs r num f → FaceIs s num f → r ≡ s
+  pub one_answer : (r s : Result ℤ Refusal) (num : ℕ) (f : ℤ) → Answers r num f (pos 0) → Answers s num f (pos 0) → r ≡ s
   -- a projection that is not refused, whose entries are floats of binary32, has an entry that none beats: `best_of` finds the first of them,
   -- and the 0 that its definition falls back to is never taken for want of one
   pub best_first : (w : List Float) → HasFace w → ((k : ℕ) → T (fits binary32 (get_or w k nan))) → First w (best_of w)

@@ -1,34 +1,16 @@
 // Faces and slots of finite projections, for the index. A face set's place is a slot, a number from 0 to 2d - 1: the faces 1 to d have the slots
 // 0 to d - 1, the faces -1 to -d the slots d to 2d - 1.
 ghost use Rattle.std.specs.Prelude.{◌≡◌, true, ◌++◌, ◌+◌, ◌*◌, ◌<◌, ◌≤◌, length, drop};
-ghost use Rattle.faces.specs.Best.{size_of, beats, best_of};
+ghost use Rattle.faces.specs.Best.{beats, best_of};
 ghost use Rattle.faces.specs.Slots.{face_for, slot_for, face_of, slot_of, picked_of, faces_of, after_of, HasFace};
-
-// The absolute value.
-fn size_of(x: f32) -> f32
-    ensures { result ≡ size_of x }
-{
-    if x < 0.0 { -x } else { x }
-}
 
 // Whether y goes before x: greater in absolute value, or as great, and positive where x is not.
 fn goes_before(y: f32, x: f32) -> bool
     ensures { result ≡ beats y x }
 {
-    let a = size_of(x);
-    let b = size_of(y);
-    if a < b {
-        return true;
-    }
-    if a == b {
-        if y > 0.0 {
-            if x > 0.0 {
-                return false;
-            }
-            return true;
-        }
-    }
-    false
+    let a = x.abs();
+    let b = y.abs();
+    a < b || (a == b && (y > 0.0 && !(x > 0.0)))
 }
 
 // The first index whose entry none goes before.
@@ -37,12 +19,10 @@ fn best_index(projection: &[f32]) -> usize
     ensures { (result < length projection.now) × (result ≡ best_of projection.now) }
 {
     let mut best = 0;
-    let mut i = 1;
-    while i < projection.len() {
+    for i in 1..projection.len() {
         if goes_before(projection[i], projection[best]) {
             best = i;
         }
-        i += 1;
     }
     best
 }
@@ -64,7 +44,7 @@ fn slot_of(b: usize, up: bool, d: usize) -> usize
     if up { b } else { d + b }
 }
 
-// The face of a projection.
+/// The face of a projection.
 pub fn face(projection: &[f32]) -> i32
     requires { HasFace projection.now }
     ensures { result ≡ face_of projection.now }
@@ -73,7 +53,7 @@ pub fn face(projection: &[f32]) -> i32
     face_of(b, projection[b] > 0.0)
 }
 
-// The slot of a projection.
+/// The slot of a projection.
 pub fn slot(work: &[f32]) -> usize
     requires { HasFace work.now }
     ensures { (result ≡ slot_of work.now) × (result < 2 * length work.now) }
@@ -82,7 +62,7 @@ pub fn slot(work: &[f32]) -> usize
     slot_of(b, work[b] > 0.0, work.len())
 }
 
-// The slot of a projection, whose best entry becomes +0.0.
+/// The slot of a projection, whose best entry becomes +0.0.
 pub fn pick(work: &mut [f32]) -> usize
     requires { HasFace work.old }
     ensures { (result ≡ slot_of work.old) × (result < 2 * length work.old) × (work.new ≡ picked_of work.old) }
@@ -93,17 +73,14 @@ pub fn pick(work: &mut [f32]) -> usize
     s
 }
 
-// Picks n faces, one after the other, into the first n places of `out`; each picked entry becomes +0.0.
+/// Picks n faces, one after the other, into the first n places of `out`; each picked entry becomes +0.0.
 pub fn pick_faces(projection: &mut [f32], n: usize, out: &mut [i32])
     requires { HasFace projection.old × (n ≤ length out.old) }
     ensures { (projection.new ≡ after_of n projection.old) × (out.new ≡ faces_of n projection.old ++ drop n out.old) }
 {
-    let mut k = 0;
-    while k < n {
+    for k in 0..n {
         let b = best_index(projection);
-        let f = face_of(b, projection[b] > 0.0);
-        out[k] = f;
+        out[k] = face_of(b, projection[b] > 0.0);
         projection[b] = 0.0;
-        k += 1;
     }
 }

@@ -1,6 +1,11 @@
 -- Laws of the loops of orthonormalize. Assumes nothing.
 use mathlib.Core.Path.{◌≡◌, refl, sym, ◌∙◌, ap, subst}
-use mathlib.Core.Bool.{Bool, true, false}
+use Rattle.std.proofs.Common.{Result, Ok, Err}
+use borrow.Author.Tests.{eq-eqb, ne_eqb}
+use Rattle.std.specs.Result.{IsErr}
+use Rattle.paper.specs.declared.Refusal.{Refusal}
+use Rattle.paper.specs.Refusals.{code_of}
+use Rattle.paper.proofs.Answering.{number_low}
 use mathlib.Core.Option.{none, some}
 use mathlib.Core.List.{List, [], ◌∷◌, ◌++◌, zip_with, append_assoc}
 use native.Mathlib.Nat.{add-sub_cancel_left, mul-le-mul_right, suc-mul}
@@ -10,8 +15,8 @@ use Rattle.vector.specs.Norm.{norm_number, normalized}
 use Prim.Native.Nat.{ℕ, zero, suc, ◌+◌, ◌-◌, ◌*◌, ◌<◌, ◌≤◌}
 use native.Mathlib.Numerals.{add-one}
 use native.Mathlib.Omega.{arith}
-use lib.ListN.{length, get_or, set, take, drop, replicate, length-set, take-append-drop, replicate-append-replicate}
-use lib.Seq.{drop-cons, drop-drop, drop-set-add, drop-set-lt, take-set-le, take-suc, take-suc-set, take_all}
+use lib.ListN.{length, get_or, set, take, drop, length-set, take-append-drop}
+use lib.Seq.{drop-cons, drop-drop, drop-set-add, drop-set-lt, take-set-le, take-suc-set}
 use lib.Ieee.{Float, nan, binary32, sub, mul}
 use Rattle.ortho.specs.Ortho.{row, less_times, reduced, norm_row, told, and_then, pair_of, rows_of, round_of, rounds_of}
 
@@ -107,15 +112,20 @@ reduced_loop a b t d xs h l =
     ∙ ap (λ (z : ℕ). reduced z (b + 0) d t xs) p
     ∙ ap (λ (z : ℕ). reduced a z d t xs) q
 
-pub pick_told : (b : Bool) (xs : List Float) → pick b (some xs) none ≡ told b xs
-pick_told true xs = refl
-pick_told false xs = refl
+-- what a refused step leaves, whatever its refusal
+pub told_none : {A : Type 0} (r : Result A Refusal) (xs : List Float) → IsErr r → told r xs ≡ none
+told_none (Ok x) xs h = cc
+told_none (Err e) xs h = refl
+
+pick_told : {A : Type 0} (r : Result A Refusal) (n : ℕ) (xs : List Float) → code_of r ≡ n → pick (eqb n 0) (some xs) none ≡ told r xs
+pick_told (Ok x) n xs p = rw (eq-eqb n 0 (sym p))
+pick_told (Err e) n xs p = let low = number_low e in rw (ne_eqb n 0 (λ z. omega arith))
 
 -- a part that was lent, normalised, and has come back
-pub norm_row_lem : (a d : ℕ) (xs ys : List Float) (m : ℕ) → m ≡ norm_number (take (a + d - a) (drop a xs)) → ys ≡ normalized (take (a + d - a) (drop a xs)) → norm_row a d xs ≡ told (eqb m 0) (take a xs ++ (ys ++ drop (a + d - a) (drop a xs)))
+pub norm_row_lem : {A : Type 0} (a d : ℕ) (xs ys : List Float) (r : Result A Refusal) → code_of r ≡ norm_number (take (a + d - a) (drop a xs)) → ys ≡ normalized (take (a + d - a) (drop a xs)) → norm_row a d xs ≡ told r (take a xs ++ (ys ++ drop (a + d - a) (drop a xs)))
 unfolding norm_row
-norm_row_lem a d xs ys m p q =
-    rw (p, q, add-sub_cancel_left, drop-drop) (pick_told (eqb (norm_number (take d (drop a xs))) 0) (take a xs ++ (normalized (take d (drop a xs)) ++ drop (a + d) xs)))
+norm_row_lem a d xs ys r p q =
+    rw (q, add-sub_cancel_left, drop-drop) (pick_told r (norm_number (take d (drop a xs))) (take a xs ++ (normalized (take d (drop a xs)) ++ drop (a + d) xs)) (rw add-sub_cancel_left at p))
 
 -- one row more: the code's j + 1, with d - j rows left
 module _ (d i j : ℕ) (xs : List Float) where
@@ -123,12 +133,12 @@ module _ (d i j : ℕ) (xs : List Float) where
   unfolding rows_of
   rows_step h = rw (left_suc d j h, add-one)
 
-  module _ (a : ℕ) (A : a ≡ i * d) (h : j < d) (r : Bool) (ys : List Float) (P : pair_of a (j * d) d xs ≡ told r ys) where
-    pub rows_more : r ≡ true → rows_of d i (d - j) j xs ≡ rows_of d i (d - (j + 1)) (j + 1) ys
-    rows_more t = rows_step h ∙ rw (← A, P, t)
+  module _ (a : ℕ) (A : a ≡ i * d) (h : j < d) where
+    pub rows_more : (ys : List Float) → pair_of a (j * d) d xs ≡ some ys → rows_of d i (d - j) j xs ≡ rows_of d i (d - (j + 1)) (j + 1) ys
+    rows_more ys P = rows_step h ∙ rw (← A, P)
 
-    pub rows_fail : r ≡ false → rows_of d i (d - j) j xs ≡ none
-    rows_fail t = rows_step h ∙ rw (← A, P, t)
+    pub rows_fail : pair_of a (j * d) d xs ≡ none → rows_of d i (d - j) j xs ≡ none
+    rows_fail P = rows_step h ∙ rw (← A, P)
 
   pub rows_end : d ≤ j → rows_of d i (d - j) j xs ≡ some xs
   unfolding rows_of
@@ -142,16 +152,6 @@ row_before d i j h = subst (λ (n : ℕ). n ≤ j * d) (suc-mul i d) (mul-le-mul
 pub row_within : (d j : ℕ) → j < d → j * d + d ≤ d * d
 row_within d j h = subst (λ (n : ℕ). n ≤ d * d) (suc-mul j d) (mul-le-mul_right d h)
 
--- loops that write each element in order
-pub copy_step : (src out : List Float) (k : ℕ) → k < length src → k < length out → take k out ≡ take k src → take (k + 1) (set out k (get_or src k nan)) ≡ take (k + 1) src
-copy_step src out k hs ho e = rw (add-one, take-suc-set out k _ ho, take-suc src k nan hs, e)
-
-pub copy_end : (src out : List Float) (k : ℕ) → length src ≤ k → length out ≤ k → take k out ≡ take k src → out ≡ src
-copy_end src out k hs ho e = sym (take_all k out ho) ∙ e ∙ take_all k src hs
-
-pub fill_step : (z : Float) (out : List Float) (k : ℕ) → k < length out → take k out ≡ replicate k z → take (k + 1) (set out k z) ≡ replicate (k + 1) z
-fill_step z out k h e = ap (λ (n : ℕ). take n (set out k z)) (add-one k) ∙ take-suc-set out k z h ∙ ap (λ (l : List Float). l ++ (z ∷ [])) e ∙ replicate-append-replicate k 1 z
-
 -- ---- the rounds
 
 module _ (d i : ℕ) (xs : List Float) (h : i < d) where
@@ -159,30 +159,28 @@ module _ (d i : ℕ) (xs : List Float) (h : i < d) where
   unfolding round_of
   round_step = rw (left_suc d i h, add-one)
 
-  module _ (r : Bool) (ys : List Float) (P : norm_row (i * d) d xs ≡ told r ys) where
-    pub round_fail_1 : r ≡ false → round_of d (d - i) i xs ≡ none
-    round_fail_1 t = round_step ∙ rw (P, t)
+  pub round_fail_1 : norm_row (i * d) d xs ≡ none → round_of d (d - i) i xs ≡ none
+  round_fail_1 P = round_step ∙ rw P
 
-    module _ (q : Bool) (zs : List Float) (Q : rows_of d i (d - (i + 1)) (i + 1) ys ≡ told q zs) where
-      pub round_fail_2 : r ≡ true → q ≡ false → round_of d (d - i) i xs ≡ none
-      round_fail_2 t u = round_step ∙ rw (P, t, Q, u)
+  module _ (ys : List Float) (P : norm_row (i * d) d xs ≡ some ys) where
+    pub round_fail_2 : rows_of d i (d - (i + 1)) (i + 1) ys ≡ none → round_of d (d - i) i xs ≡ none
+    round_fail_2 Q = round_step ∙ rw (P, Q)
 
-      pub round_more : r ≡ true → q ≡ true → round_of d (d - i) i xs ≡ round_of d (d - (i + 1)) (i + 1) zs
-      round_more t u = round_step ∙ rw (P, t, Q, u)
+    pub round_more : (zs : List Float) → rows_of d i (d - (i + 1)) (i + 1) ys ≡ some zs → round_of d (d - i) i xs ≡ round_of d (d - (i + 1)) (i + 1) zs
+    round_more zs Q = round_step ∙ rw (P, Q)
 
 pub round_end : (d i : ℕ) (xs : List Float) → d ≤ i → round_of d (d - i) i xs ≡ some xs
 unfolding round_of
 round_end d i xs h = rw (left_none d i h)
 
 module _ (d n k : ℕ) (xs : List Float) where
-  module _ (h : k < n) (r : Bool) (ys : List Float) (P : round_of d d 0 xs ≡ told r ys) where
-    pub rounds_fail : r ≡ false → rounds_of d (n - k) xs ≡ none
-    unfolding rounds_of
-    rounds_fail t = rw (left_suc n k h, P, t)
+  pub rounds_fail : k < n → round_of d d 0 xs ≡ none → rounds_of d (n - k) xs ≡ none
+  unfolding rounds_of
+  rounds_fail h P = rw (left_suc n k h, P)
 
-    pub rounds_more : r ≡ true → rounds_of d (n - k) xs ≡ rounds_of d (n - (k + 1)) ys
-    unfolding rounds_of
-    rounds_more t = rw (left_suc n k h, P, t)
+  pub rounds_more : k < n → (ys : List Float) → round_of d d 0 xs ≡ some ys → rounds_of d (n - k) xs ≡ rounds_of d (n - (k + 1)) ys
+  unfolding rounds_of
+  rounds_more h ys P = rw (left_suc n k h, P)
 
   pub rounds_end : n ≤ k → rounds_of d (n - k) xs ≡ some xs
   unfolding rounds_of

@@ -1,9 +1,10 @@
 -- Orthonormalising one basis, d vectors (rows) of d components in one list (01, "orthonormalize"). Definitions only.
-use Rattle.std.specs.Prelude.{ℕ, zero, suc, ◌+◌, ◌*◌, Bool, true, false, eqb, leb, length, take, drop, replicate, Float}
+use Rattle.std.specs.Prelude.{ℕ, zero, suc, ◌+◌, ◌*◌, Result, Ok, Err, eqb, leb, length, take, drop, replicate, Float}
 use mathlib.Core.List.{List, ◌++◌, zip_with}
 use Rattle.std.proofs.Math.Option.{Option, none, some}
 use Rattle.std.specs.Float.{binary32}
 use Rattle.std.specs.Float.Ieee.{sub, mul}
+use Rattle.paper.specs.declared.Refusal.{Refusal}
 use Rattle.paper.specs.Choice.{◌and◌, pick}
 use Rattle.vector.specs.Fold.{dot_of, zero32}
 use Rattle.vector.specs.Finite.{all_finite}
@@ -48,10 +49,10 @@ unfoldable pub round_of : ℕ → ℕ → ℕ → List Float → Option (List Fl
 round_of d zero i xs = some xs
 round_of d (suc n) i xs = and_then (and_then (norm_row (i * d) d xs) (rows_of d i n (suc i))) (round_of d n (suc i))
 
--- what a function that answers a bool and leaves a list says: the list, or nothing
-abbrev pub told : Bool → List Float → Option (List Float)
-told true xs = some xs
-told false xs = none
+-- what a function that may be refused and leaves a list says: the list, or nothing
+abbrev pub told : {A : Type 0} → Result A Refusal → List Float → Option (List Float)
+told (Ok x) xs = some xs
+told (Err r) xs = none
 
 -- r rounds over all d rows
 unfoldable pub rounds_of : ℕ → ℕ → List Float → Option (List Float)

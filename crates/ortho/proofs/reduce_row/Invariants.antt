@@ -6,6 +6,3 @@ use Rattle.ortho.proofs.reduce_row.Given as goal
 
 abbrev pub invariant-loop-k : goal.invariant-loop-k
 invariant-loop-k l = (length l.out ≡ length l.initial.out) × (l.k ≤ l.d) × (reducing l.a l.b l.dot (l.d - l.k) l.k l.out ≡ reducing l.a l.b l.dot l.d 0 l.initial.out)
-
-abbrev pub decreases-loop-k : goal.decreases-loop-k
-decreases-loop-k l = l.d - l.k

@@ -9,11 +9,7 @@ use Rattle.candidates.proofs.inner.gather.Given as goal
 
 abbrev pub invariant-loop-b : goal.invariant-loop-b
 invariant-loop-b l =
-    (l.b ≤ l.n) × (l.p ≡ l.b * (length l.target * length l.target)) × (l.f ≡ l.b * (2 * length l.target * length l.initial.set))
-    × (length l.work ≡ length l.initial.work) × (length l.layers ≡ l.n * length l.initial.set) × (length l.set ≡ length l.initial.set) × (l.total ≤ 65536 * l.b)
+    (l.total ≤ 65536 * l.b)
     × (projections_finite (length l.target) l.bases l.target l.b ≡ true)
     × (merged_all l.n (length l.initial.set) l.layers (unions_from (query_of l.bases l.faces l.target (length l.initial.set) l.picks) (l.n - l.b) l.b) ≡ layers_of l.n (query_of l.bases l.faces l.target (length l.initial.set) l.picks))
     × (l.total + dropped_all l.n (length l.initial.set) l.layers (unions_from (query_of l.bases l.faces l.target (length l.initial.set) l.picks) (l.n - l.b) l.b) ≡ dropped_of l.n (query_of l.bases l.faces l.target (length l.initial.set) l.picks))
-
-abbrev pub decreases-loop-b : goal.decreases-loop-b
-decreases-loop-b l = l.n - l.b

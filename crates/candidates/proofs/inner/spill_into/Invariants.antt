@@ -1,7 +1,6 @@
-use Prim.Native.Nat.{◌≤◌, ◌-◌}
+use Prim.Native.Nat.{◌-◌}
 use mathlib.Core.Path.{◌≡◌}
 use mathlib.Core.Bool.{true}
-use lib.ListN.{length}
 use Rattle.vector.specs.Finite.{all_finite}
 use Rattle.faces.specs.Slots.{slots}
 use Rattle.candidates.specs.Gathering.{joined}
@@ -9,8 +8,5 @@ use Rattle.candidates.proofs.inner.spill_into.Given as goal
 
 abbrev pub invariant-loop-i : goal.invariant-loop-i
 invariant-loop-i l =
-    (l.i ≤ l.picks) × (length l.work ≡ length l.initial.work) × (length l.set ≡ length l.initial.set) × (all_finite l.work ≡ true)
+    (all_finite l.work ≡ true)
     × (joined l.w l.faces l.set (slots (l.picks - l.i) l.work) ≡ joined l.w l.faces l.initial.set (slots l.picks l.initial.work))
-
-abbrev pub decreases-loop-i : goal.decreases-loop-i
-decreases-loop-i l = l.picks - l.i

@@ -1,5 +1,4 @@
 -- `faces::inner::best_index` meets its contract. Assumes nothing.
-use Prim.Native.Nat.{◌-◌}
 use mathlib.Core.Path.{sym, ◌∙◌}
 use native.Mathlib.Omega.{arith}
 use Rattle.vector.specs.Finite.{is_finite}

@@ -1,6 +1,6 @@
 -- `faces::inner::pick_faces` meets its contract. Assumes nothing.
 use borrow.Author.Rules.{rules}
-use Prim.Native.Nat.{◌-◌, ◌<◌}
+use Prim.Native.Nat.{◌<◌}
 use mathlib.Core.Path.{refl, sym, ◌∙◌, ap}
 use native.Mathlib.Nat.{sub-zero}
 use native.Mathlib.Omega.{arith}
@@ -19,8 +19,8 @@ pub best_index-b-requires : goal.best_index-b-requires
 best_index-b-requires c =
     record { some = omega (arith, c.requires.0.some); few = omega (arith, c.requires.0.few); finite = c.loop-k.invariant.3 }
 
-pub face_of-f-requires : goal.face_of-f-requires
-face_of-f-requires c = omega (arith, c.requires.0.few)
+pub face_of-requires : goal.face_of-requires
+face_of-requires c = omega (arith, c.requires.0.few)
 
 pub loop-k-preserved : goal.loop-k-preserved
 loop-k-preserved c =
@@ -29,7 +29,7 @@ loop-k-preserved c =
     let k = c.loop-k.k in
     let B = c.best_index-b.ensures.1 in
     let P = picked_at w c.best_index-b.result B in
-    let z = face_at w c.best_index-b.result B _ (to_z-of_z w32 c.face_of-f.result (record { sfits = c.face_of-f.type_inv }) ∙ c.face_of-f.ensures) in
+    let z = face_at w c.best_index-b.result B _ (to_z-of_z w32 c.face_of.result (record { sfits = c.face_of.type_inv }) ∙ c.face_of.ensures) in
     let l : k < n = omega arith in (
       ap length P ∙ length_picked w ∙ c.loop-k.invariant.0,
       simp length-set c.loop-k.invariant.1,

@@ -1,4 +1,4 @@
-use Prim.Native.Nat.{◌+◌, ◌-◌, ◌≤◌}
+use Prim.Native.Nat.{◌-◌, ◌≤◌}
 use mathlib.Core.Path.{◌≡◌}
 use mathlib.Core.Bool.{true}
 use mathlib.Core.List.{◌++◌}
@@ -9,6 +9,3 @@ use Rattle.faces.proofs.inner.pick_faces.Given as goal
 
 abbrev pub invariant-loop-k : goal.invariant-loop-k
 invariant-loop-k l = (length l.projection ≡ length l.initial.projection) × (length l.out ≡ length l.initial.out) × (l.k ≤ l.n) × (all_finite l.projection ≡ true) × (after_of (l.n - l.k) l.projection ≡ after_of l.n l.initial.projection) × (take l.k l.out ++ faces_of (l.n - l.k) l.projection ≡ faces_of l.n l.initial.projection) × (drop l.k l.out ≡ drop l.k l.initial.out)
-
-abbrev pub decreases-loop-k : goal.decreases-loop-k
-decreases-loop-k l = l.n - l.k

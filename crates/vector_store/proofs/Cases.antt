@@ -16,43 +16,48 @@ use Rattle.index_memory.proofs.Lengths.{own_sized, bases_long}
 use Rattle.index_memory.proofs.Places.{part_end, part_long, part_is}
 use Rattle.counting_bitmap.specs.Layers.{layer}
 use Rattle.counting_bitmap.specs.TopLayer.{top_of}
-use Rattle.counting_bitmap.specs.declared.Top.TheVariants.{Layer, Nothing}
+use Rattle.std.specs.Prelude.{Some, None, Ok, Err}
+use Rattle.paper.specs.Refusals.{number_of}
+use Rattle.paper.specs.declared.Refusal.{Refusal}
+use Rattle.paper.proofs.Answering.{number_low}
 use Rattle.counting_bitmap.proofs.Highest.{top_layer_is}
-use Rattle.result.specs.declared.Fed.{Fed}
+use Rattle.result.specs.Sets.{Fed, empty_set, fed_or}
+use Rattle.result.specs.declared.ResultSet.{ResultSet}
 use Rattle.vector.specs.Finite.{all_finite}
 use Rattle.faces.specs.Slots.{picks_of}
 use Rattle.backend_memory.specs.Ranking.{rank_of}
 use Rattle.backend_memory.proofs.Cases.{bytes_by}
-use Rattle.candidates.specs.Gathering.{Query, query_of, target_finite, GatherIs}
-use Rattle.candidates.specs.declared.Gathered.{Gathered}
+use Rattle.candidates.specs.Gathering.{Query, query_of, target_finite, GatherIs, gathered}
 use Rattle.candidates.proofs.Bases.{was_finite, was_not}
 use Rattle.vector_store.specs.Search.{refused, shown, top_rank_of, found_of, Work, Searched, searched, cleared, work_ok, search_shape, search_refusal, search_of, FindArgs}
-use Rattle.vector_store.specs.declared.Nearest.{Nearest}
+use Rattle.vector_store.specs.Search.{Nearest}
 
 -- ---- an answer from a ranking
 
-module _ (dropped : ℕ) (f : Fed) where
-  pub show_refused : (r : Nearest) → (f.refusal ≡ 0 → ⊥) → r ≡ refused f.refusal → r ≡ shown dropped f
-  show_refused r h q = rw (ne_eqb f.refusal 0 h) q
+-- the ranking's own refusal is handed on
+pub show_refused : (dropped : ℕ) (e : Refusal) (f : Fed) → f ≡ fed_or (empty_set 0) (Err e) → refused (number_of e) ≡ shown dropped f
+show_refused dropped e f q =
+    let low = number_low e in
+    rw (q, ne_eqb (number_of e) 0 (λ z. omega (arith, z)))
 
-  pub show_good : f.refusal ≡ 0 → record { refusal = 0; set = f.set; dropped = dropped } ≡ shown dropped f
-  show_good h = rw (eq-eqb f.refusal 0 h)
+pub show_good : (dropped : ℕ) (set : ResultSet) (f : Fed) → f ≡ fed_or (empty_set 0) (Ok set) → record { refusal = 0; set = set; dropped = dropped } ≡ shown dropped f
+show_good dropped set f q = rw q
 
 -- ---- the chosen layer
 
 module _ (n mode k sk w : ℕ) (ls ms vs : List ℕ) (t : List Float) (dr : ℕ) (r : Nearest) where
-  pub top_none : top_of n w ls sk ≡ Nothing → r ≡ refused 8 → r ≡ top_rank_of n mode k sk w ls ms vs t dr
+  pub top_none : top_of n w ls sk ≡ None → r ≡ refused 8 → r ≡ top_rank_of n mode k sk w ls ms vs t dr
   unfolding top_rank_of
   top_none e q = rw e q
 
-  pub top_ranked : (i : ℕ) (f : Fed) → top_of n w ls sk ≡ Layer i → f ≡ rank_of mode k (take (i * w + w - i * w) (drop (i * w) ls)) ms vs t → r ≡ shown dr f → r ≡ top_rank_of n mode k sk w ls ms vs t dr
+  pub top_ranked : (i : ℕ) (f : Fed) → top_of n w ls sk ≡ Some i → f ≡ rank_of mode k (take (i * w + w - i * w) (drop (i * w) ls)) ms vs t → r ≡ shown dr f → r ≡ top_rank_of n mode k sk w ls ms vs t dr
   unfolding top_rank_of
   top_ranked i f e p q =
       let part : f ≡ rank_of mode k (layer w ls i) ms vs t = p ∙ ap (λ (l : List ℕ). rank_of mode k l ms vs t) (part_is i w (i * w) ls refl) in
       rw e (q ∙ ap (shown dr) part)
 
 -- where it stands among the layers
-module _ (n w sk i : ℕ) (ls : List ℕ) (e : top_of n w ls sk ≡ Layer i) (l : length ls ≡ n * w) where
+module _ (n w sk i : ℕ) (ls : List ℕ) (e : top_of n w ls sk ≡ Some i) (l : length ls ≡ n * w) where
   pub layer_end : i * w + w ≤ length ls
   layer_end = part_end i n w (i * w) ls (top_layer_is n w ls sk i e).below refl l
 
@@ -61,14 +66,18 @@ module _ (n w sk i : ℕ) (ls : List ℕ) (e : top_of n w ls sk ≡ Layer i) (l 
 
 -- ---- past the gathering
 
-module _ (n mode k sk : ℕ) (q : Query) (ms vs ls : List ℕ) (g : Gathered) (r : Nearest) (o : GatherIs n q g ls) where
-  pub found_refused : (g.refusal ≡ 0 → ⊥) → r ≡ refused 7 → r ≡ found_of n mode k sk q ms vs
+module _ (n mode k sk : ℕ) (q : Query) (ms vs ls : List ℕ) where
+  pub found_refused : (e : Refusal) → GatherIs n q (gathered (Err e)) ls → refused (number_of e) ≡ found_of n mode k sk q ms vs
   unfolding found_of
-  found_refused h e = rw (was_not (target_finite q n) g.refusal o.answer h) e
+  found_refused e o =
+      let low = number_low e in
+      let bad = was_not (target_finite q n) (number_of e) o.answer (λ z. omega (arith, z)) in
+      let seven : number_of e ≡ 7 = rw bad at o.answer in
+      rw (bad, seven)
 
-  pub found_done : g.refusal ≡ 0 → r ≡ top_rank_of n mode k sk q.w ls ms vs q.target g.dropped → r ≡ found_of n mode k sk q ms vs
+  pub found_done : (d : ℕ) (r : Nearest) → GatherIs n q (gathered (Ok d)) ls → r ≡ top_rank_of n mode k sk q.w ls ms vs q.target d → r ≡ found_of n mode k sk q ms vs
   unfolding found_of
-  found_done h e = rw (was_finite (target_finite q n) g.refusal o.answer h, ← o.layers h, ← o.dropped h) e
+  found_done d r o e = rw (was_finite (target_finite q n) 0 o.answer refl, ← o.layers refl, ← o.dropped refl) e
 
 -- ---- the public call
 

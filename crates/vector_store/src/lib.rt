@@ -1,83 +1,47 @@
 // The nearest neighbours of a target: find_nearest and full_table_scan of vector_store.rs, over lent memory.
 #![tactic(auto)]
 
-ghost use Rattle.std.specs.Prelude.{◌≡◌, ◌≤◌, length};
-ghost use Rattle.paper.specs.Geometry.{geo};
+ghost use Rattle.std.specs.Prelude.{◌≡◌, ◌≤◌, length, IfOk};
+ghost use Rattle.paper.specs.Refusals.{code_of};
 ghost use Rattle.index_memory.specs.Memory.{ix_of};
+ghost use Rattle.result.specs.Sets.{empty_set, fed_or};
 ghost use Rattle.backend_memory.specs.Scan.{scan_of};
 ghost use Rattle.candidates.specs.Gathering.{query_of};
-ghost use Rattle.vector_store.specs.Search.{refused, shown, top_rank_of, found_of, works, searched, cleared, work_ok, search_shape, search_of, TopArgs, FindArgs};
+ghost use Rattle.vector_store.specs.Search.{told_of, top_rank_of, found_of, works, searched, cleared, work_ok, search_shape, search_of, TopArgs, FindArgs};
 ghost use Rattle.vector_store.specs.Laws.{Laws};
 
-use counting_bitmap::Top;
-use result::{Fed, ResultSet};
+use paper::{Geometry, Refusal};
+use result::ResultSet;
 
-// What a search answers: a refusal, 0 for none, the list, and how many ids fell off the last layer.
+/// What a search asks: a list of at most k, the ids of the highest layer that has search_k of them, and spill + 1 faces a basis.
+#[derive(Clone, Copy, Debug, PartialEq, Eq)]
+pub struct Query {
+    pub k: usize,
+    pub search_k: usize,
+    pub spill: usize,
+}
+
+/// What a search found: the list, and how many ids fell off the last layer.
 #[derive(Clone, Copy)]
 pub struct Nearest {
-    pub refusal: u32,
     pub set: ResultSet,
     pub dropped: u32,
 }
 
-// A refused search: an empty list with k 0 and checked 0.
-fn refuse(num: u32) -> Nearest
-    ensures { result ≡ refused num }
-{
-    Nearest {
-        refusal: num,
-        set: result::inner::empty(0),
-        dropped: 0,
-    }
-}
-
-// The ranked list with the dropped total beside it.
-fn show(dropped: u32, fed: Fed) -> Nearest
-    ensures { result ≡ shown dropped fed }
-{
-    let num = fed.refusal;
-    if num != 0 {
-        return refuse(num);
-    }
-    let set = fed.set;
-    Nearest {
-        refusal: 0,
-        set,
-        dropped,
-    }
-}
-
 // Whether target, work, layers and set have their lengths.
-fn work_lengths_ok(
-    d: usize,
-    n: usize,
-    cap: usize,
-    target: usize,
-    work: usize,
-    layers: usize,
-    set: usize,
-) -> bool
-    requires { (n ≤ 32) × (cap ≤ 65536) }
-    ensures { result ≡ work_ok d n cap target work layers set }
+#[tactic(auto, unfolding(crate::specs::Search::work_ok))]
+fn work_lengths_ok(g: Geometry, target: usize, work: usize, layers: usize, set: usize) -> bool
+    requires { (g.n ≤ 32) × (g.cap ≤ 65536) }
+    ensures { result ≡ work_ok g.d g.n g.cap target work layers set }
 {
-    if target != d {
-        return false;
-    }
-    if work != d {
-        return false;
-    }
-    if layers != n * (cap / 64) {
-        return false;
-    }
-    set == cap / 64
+    let words = g.cap / 64;
+    target == g.d && work == g.d && layers == g.n * words && set == words
 }
 
-// 1 for the geometry, then 2 for a length, else 0.
-fn shape_refusal(
-    d: usize,
-    n: usize,
-    cap: usize,
-    mode: usize,
+// Refuses 1 for the geometry, then 2 for a length.
+#[tactic(auto, unfolding(crate::specs::Search::search_shape))]
+fn check_shape(
+    g: Geometry,
     bases: usize,
     faces: usize,
     marks: usize,
@@ -86,22 +50,20 @@ fn shape_refusal(
     work: usize,
     layers: usize,
     set: usize,
-) -> u32
-    ensures { result ≡ search_shape (geo d n cap mode) bases faces marks vectors target work layers set }
+) -> Result<(), Refusal>
+    ensures { code_of result ≡ search_shape g bases faces marks vectors target work layers set }
 {
-    if !paper::geometry_ok(d, n, cap, mode) {
-        return paper::WRONG_GEOMETRY;
+    g.check()?;
+    if !index_memory::inner::own_lengths_ok(g, faces, marks, vectors) {
+        return Err(Refusal::WrongLength);
     }
-    if !index_memory::inner::own_lengths_ok(d, n, cap, mode, faces, marks, vectors) {
-        return paper::WRONG_LENGTH;
+    if !index_memory::inner::bases_length_ok(g, bases) {
+        return Err(Refusal::WrongLength);
     }
-    if !index_memory::inner::bases_length_ok(d, n, bases) {
-        return paper::WRONG_LENGTH;
+    if !work_lengths_ok(g, target, work, layers, set) {
+        return Err(Refusal::WrongLength);
     }
-    if !work_lengths_ok(d, n, cap, target, work, layers, set) {
-        return paper::WRONG_LENGTH;
-    }
-    0
+    Ok(())
 }
 
 // The ids of the highest layer that has search_k of them, ranked; 8 where no layer has as many.
@@ -110,26 +72,29 @@ fn rank_top(
     marks: &[u64],
     vectors: &[u8],
     target: &[f32],
-    n: usize,
+    g: Geometry,
     w: usize,
-    mode: usize,
-    k: usize,
-    search_k: usize,
+    query: Query,
     dropped: u32,
-) -> Nearest
-    requires { TopArgs n w mode k (length layers.now) (length marks.now) (length vectors.now) (length target.now) }
-    ensures { result ≡ top_rank_of n mode k search_k w layers.now marks.now vectors.now target.now dropped }
+) -> Result<Nearest, Refusal>
+    requires { TopArgs g.n w g.mode query.k (length layers.now) (length marks.now) (length vectors.now) (length target.now) }
+    ensures { told_of result ≡ top_rank_of g.n g.mode query.k query.search_k w layers.now marks.now vectors.now target.now dropped }
 {
-    match counting_bitmap::inner::top_layer(layers, n, w, search_k) {
-        Top::Layer(i) => {
+    match counting_bitmap::inner::top_layer(layers, g.n, w, query.search_k) {
+        Some(i) => {
             let a = i * w;
             let e = a + w;
-            show(
-                dropped,
-                backend_memory::inner::rank(&layers[a..e], marks, vectors, target, mode, k),
-            )
+            let set = backend_memory::inner::rank(
+                &layers[a..e],
+                marks,
+                vectors,
+                target,
+                g.mode,
+                query.k,
+            )?;
+            Ok(Nearest { set, dropped })
         }
-        Top::Nothing => refuse(paper::NO_LAYER),
+        None => Err(Refusal::NoLayer),
     }
 }
 
@@ -143,32 +108,16 @@ fn find_nearest_internal(
     layers: &mut [u64],
     set: &mut [u64],
     target: &[f32],
-    n: usize,
-    mode: usize,
-    k: usize,
-    search_k: usize,
+    g: Geometry,
+    query: Query,
     picks: usize,
-) -> Nearest
-    requires { FindArgs n mode k (length bases.now) (length faces.now) (length marks.now) (length vectors.now) (length target.now) (length work.old) (length layers.old) (length set.old) }
-    ensures { result ≡ found_of n mode k search_k (query_of bases.now faces.now target.now (length set.old) picks) marks.now vectors.now }
+) -> Result<Nearest, Refusal>
+    requires { FindArgs g.n g.mode query.k (length bases.now) (length faces.now) (length marks.now) (length vectors.now) (length target.now) (length work.old) (length layers.old) (length set.old) }
+    ensures { told_of result ≡ found_of g.n g.mode query.k query.search_k (query_of bases.now faces.now target.now (length set.old) picks) marks.now vectors.now }
 {
     let w = set.len();
-    let gathered = candidates::inner::gather(bases, faces, target, work, layers, set, n, picks);
-    if gathered.refusal != 0 {
-        return refuse(paper::NO_PROJECTION);
-    }
-    rank_top(
-        layers,
-        marks,
-        vectors,
-        target,
-        n,
-        w,
-        mode,
-        k,
-        search_k,
-        gathered.dropped,
-    )
+    let dropped = candidates::inner::gather(bases, faces, target, work, layers, set, g.n, picks)?;
+    rank_top(layers, marks, vectors, target, g, w, query, dropped)
 }
 
 // The same, and whatever the answer, the work memories are all zeros afterwards.
@@ -181,23 +130,21 @@ fn find_and_clear(
     layers: &mut [u64],
     set: &mut [u64],
     target: &[f32],
-    n: usize,
-    mode: usize,
-    k: usize,
-    search_k: usize,
+    g: Geometry,
+    query: Query,
     picks: usize,
-) -> Nearest
-    requires { FindArgs n mode k (length bases.now) (length faces.now) (length marks.now) (length vectors.now) (length target.now) (length work.old) (length layers.old) (length set.old) }
-    ensures { searched result (works work.new layers.new set.new)
-        ≡ searched (found_of n mode k search_k (query_of bases.now faces.now target.now (length set.old) picks) marks.now vectors.now)
+) -> Result<Nearest, Refusal>
+    requires { FindArgs g.n g.mode query.k (length bases.now) (length faces.now) (length marks.now) (length vectors.now) (length target.now) (length work.old) (length layers.old) (length set.old) }
+    ensures { searched (told_of result) (works work.new layers.new set.new)
+        ≡ searched (found_of g.n g.mode query.k query.search_k (query_of bases.now faces.now target.now (length set.old) picks) marks.now vectors.now)
         (cleared (works work.old layers.old set.old)) }
 {
     let nearest = find_nearest_internal(
-        bases, faces, marks, vectors, work, layers, set, target, n, mode, k, search_k, picks,
+        bases, faces, marks, vectors, work, layers, set, target, g, query, picks,
     );
-    index_memory::inner::clear_floats(work);
-    bitmaps::inner::clear(layers);
-    bitmaps::inner::clear(set);
+    work.fill(0.0);
+    layers.fill(0);
+    set.fill(0);
     nearest
 }
 
@@ -205,7 +152,7 @@ fn find_and_clear(
 // target's projection picks (a spill of d or more counts as d - 1), the unions are merged into n counting layers, and the highest layer with search_k ids
 // or more is taken. Each candidate is fed, lowest id first, with its distance from the target, which is not normalised here. Larger scores come first, and a
 // list of more than k candidates keeps the k farthest.
-// Refuses 1, 2, 4, 5, 7 and 8, and then for each candidate in turn 9 or 10. A refused list is empty, says k 0 and checked 0, and has dropped nothing.
+// Refuses 1, 2, 4, 5, 7 and 8, and then for each candidate in turn 9 or 10. What the paper answers then is an empty list, with k 0 and checked 0, and nothing dropped.
 // Work is d floats, layers n times and set once the words of a set: 1 to 5 leave them alone, and after anything else they are all zeros.
 pub fn find_nearest(
     bases: &[f32],
@@ -216,23 +163,15 @@ pub fn find_nearest(
     layers: &mut [u64],
     set: &mut [u64],
     target: &[f32],
-    d: usize,
-    n: usize,
-    cap: usize,
-    mode: usize,
-    k: usize,
-    search_k: usize,
-    spill: usize,
-) -> Nearest
-    ensures { searched result (works work.new layers.new set.new)
-        ≡ search_of (geo d n cap mode) bases.now (ix_of faces.now marks.now vectors.now) target.now k search_k spill
+    g: Geometry,
+    query: Query,
+) -> Result<Nearest, Refusal>
+    ensures { searched (told_of result) (works work.new layers.new set.new)
+        ≡ search_of g bases.now (ix_of faces.now marks.now vectors.now) target.now query.k query.search_k query.spill
         (works work.old layers.old set.old) }
 {
-    let num = shape_refusal(
-        d,
-        n,
-        cap,
-        mode,
+    check_shape(
+        g,
         bases.len(),
         faces.len(),
         marks.len(),
@@ -241,37 +180,31 @@ pub fn find_nearest(
         work.len(),
         layers.len(),
         set.len(),
-    );
-    if num != 0 {
-        return refuse(num);
-    }
-    if k > 256 {
-        return refuse(paper::WRONG_K);
+    )?;
+    if query.k > 256 {
+        return Err(Refusal::WrongK);
     }
     if !vector::all_finite(target) {
-        return refuse(paper::NOT_FINITE);
+        return Err(Refusal::NotFinite);
     }
-    let picks = faces::picks_for(d, spill);
+    let picks = faces::picks_for(g.d, query.spill);
     find_and_clear(
-        bases, faces, marks, vectors, work, layers, set, target, n, mode, k, search_k, picks,
+        bases, faces, marks, vectors, work, layers, set, target, g, query, picks,
     )
 }
 
-// Ranks every present id: the backend's scan, under the name that the store gives it. Refuses 1, 2, 4, 5, and 10 for a score that is NaN; a refused list is empty, with
-// k 0 and checked 0. It writes to no lent memory.
+// Ranks every present id: the backend's scan, under the name that the store gives it. Refuses 1, 2, 4, 5, and 10 for a score that is NaN: what the paper answers then is an
+// empty list, with k 0 and checked 0. It writes to no lent memory.
 pub fn full_table_scan(
     marks: &[u64],
     vectors: &[u8],
     target: &[f32],
-    d: usize,
-    n: usize,
-    cap: usize,
-    mode: usize,
+    g: Geometry,
     k: usize,
-) -> Fed
-    ensures { result ≡ scan_of (geo d n cap mode) marks.now vectors.now target.now k }
+) -> Result<ResultSet, Refusal>
+    ensures { fed_or (empty_set 0) result ≡ scan_of g marks.now vectors.now target.now k }
 {
-    backend_memory::full_table_scan(marks, vectors, target, d, n, cap, mode, k)
+    backend_memory::full_table_scan(marks, vectors, target, g, k)
 }
 
 // The laws of this crate, claimed: specs/Laws.antt says each of them.

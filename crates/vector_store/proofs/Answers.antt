@@ -4,6 +4,7 @@ use native.Mathlib.Omega.{arith}
 use mathlib.Core.Path.{◌≡◌, refl, sym, ap, ◌∙◌, subst}
 use mathlib.Core.Bool.{Bool, true, false}
 use mathlib.Core.List.{List}
+use Rattle.std.proofs.Common.{Option, Some, None}
 use lib.Dec.{leb, eqb}
 use lib.Ieee.{Float}
 use lib.ListN.{length}
@@ -16,13 +17,10 @@ use Rattle.bitmaps.specs.Words.{has, size}
 use Rattle.bitmaps.proofs.Digits.{Words}
 use Rattle.counting_bitmap.specs.Layers.{layer}
 use Rattle.counting_bitmap.specs.TopLayer.{top_of, Highest}
-use Rattle.counting_bitmap.specs.declared.Top.{Top}
-use Rattle.counting_bitmap.specs.declared.Top.TheVariants.{Layer, Nothing}
 use Rattle.counting_bitmap.proofs.Highest.{top_layer_is}
 use Rattle.result.specs.Ranked.{larger, in_order, Outcome}
-use Rattle.result.specs.Sets.{entries_of, empty_set}
+use Rattle.result.specs.Sets.{Fed, entries_of, empty_set}
 use Rattle.result.specs.declared.ResultSet.{ResultSet}
-use Rattle.result.specs.declared.Fed.{Fed}
 use Rattle.result.proofs.Keeps.{Sound, sound_empty}
 use Rattle.vector.specs.Finite.{all_finite}
 use Rattle.backend_memory.specs.Ranking.{similarity_of, scored, rank_of}
@@ -33,13 +31,12 @@ use Rattle.backend_memory.proofs.Best.{rank_long, rank_best}
 use Rattle.candidates.specs.Gathering.{Query, target_finite, layers_of, dropped_of}
 use Rattle.candidates.proofs.Unions.{search_drops_none}
 use Rattle.candidates.proofs.Words.{layer_words}
-use Rattle.vector_store.specs.Search.{AcceptedSearch, searched_by, refused, ranked_by, top_rank_of, found_of, Work, searched, cleared, search_shape, search_refusal, search_of}
-use Rattle.vector_store.specs.declared.Nearest.{Nearest}
+use Rattle.vector_store.specs.Search.{Nearest, AcceptedSearch, searched_by, refused, ranked_by, top_rank_of, found_of, Work, searched, cleared, search_shape, search_refusal, search_of}
 
 -- ---- an accepted search
 
 module _ (n mode k sk : ℕ) (q : Query) (ms vs : List ℕ) where
-  from_rank : target_finite q n ≡ true → (i : ℕ) → top_of n q.w (layers_of n q) sk ≡ Layer i → (b : Bool) → eqb (rank_of mode k (layer q.w (layers_of n q) i) ms vs q.target).refusal 0 ≡ b
+  from_rank : target_finite q n ≡ true → (i : ℕ) → top_of n q.w (layers_of n q) sk ≡ Some i → (b : Bool) → eqb (rank_of mode k (layer q.w (layers_of n q) i) ms vs q.target).refusal 0 ≡ b
       → (r : Nearest) → r ≡ pick b (record { refusal = 0; set = (rank_of mode k (layer q.w (layers_of n q) i) ms vs q.target).set; dropped = dropped_of n q }) (refused (rank_of mode k (layer q.w (layers_of n q) i) ms vs q.target).refusal)
       → r.refusal ≡ 0 → AcceptedSearch n mode k sk q ms vs r
   from_rank f i h true t r p e =
@@ -53,10 +50,10 @@ module _ (n mode k sk : ℕ) (q : Query) (ms vs : List ℕ) where
       }
   from_rank f i h false t r p e = absurd (eqb-false (rank_of mode k (layer q.w (layers_of n q) i) ms vs q.target).refusal 0 t (ap (λ (x : Nearest). x.refusal) (sym p) ∙ e))
 
-  by_cases : (b : Bool) (tp : Top) → target_finite q n ≡ b → top_of n q.w (layers_of n q) sk ≡ tp → (r : Nearest)
+  by_cases : (b : Bool) (tp : Option ℕ) → target_finite q n ≡ b → top_of n q.w (layers_of n q) sk ≡ tp → (r : Nearest)
       → r ≡ pick b (ranked_by mode k q.w (layers_of n q) ms vs q.target (dropped_of n q) tp) (refused 7) → r.refusal ≡ 0 → AcceptedSearch n mode k sk q ms vs r
-  by_cases true (Layer i) f h r p e = from_rank f i h (eqb (rank_of mode k (layer q.w (layers_of n q) i) ms vs q.target).refusal 0) refl r p e
-  by_cases true Nothing f h r p e = absurd (omega (arith, ap (λ (x : Nearest). x.refusal) p))
+  by_cases true (Some i) f h r p e = from_rank f i h (eqb (rank_of mode k (layer q.w (layers_of n q) i) ms vs q.target).refusal 0) refl r p e
+  by_cases true None f h r p e = absurd (omega (arith, ap (λ (x : Nearest). x.refusal) p))
   by_cases false tp f h r p e = absurd (omega (arith, ap (λ (x : Nearest). x.refusal) p))
 
   pub found_accepted : (found_of n mode k sk q ms vs).refusal ≡ 0 → AcceptedSearch n mode k sk q ms vs (found_of n mode k sk q ms vs)
@@ -124,11 +121,11 @@ module _ (n mode k sk : ℕ) (q : Query) (ms vs : List ℕ) (h : k ≤ 256) wher
   unfolding found_of top_rank_of
   found_sound = by (target_finite q n) (top_of n q.w (layers_of n q) sk)
     where
-      by : (b : Bool) (tp : Top) → Sound (pick b (ranked_by mode k q.w (layers_of n q) ms vs q.target (dropped_of n q) tp) (refused 7)).set
-      by true (Layer i) =
+      by : (b : Bool) (tp : Option ℕ) → Sound (pick b (ranked_by mode k q.w (layers_of n q) ms vs q.target (dropped_of n q) tp) (refused 7)).set
+      by true (Some i) =
           let f = rank_of mode k (layer q.w (layers_of n q) i) ms vs q.target in
           shown_sound (dropped_of n q) f (rank_sound mode k (layer q.w (layers_of n q) i) ms vs q.target h) (eqb f.refusal 0)
-      by true Nothing = none_sound
+      by true None = none_sound
       by false tp = none_sound
 
 not4 : ◌≡◌ {A = ℕ} 4 0 → ⊥

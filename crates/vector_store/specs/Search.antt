@@ -1,35 +1,46 @@
 -- What a search refuses, what it answers, and what it leaves in the work memories (01, "Refusal numbers" and "Store and search").
-use Rattle.std.specs.Prelude.{ℕ, ◌*◌, ◌≤◌, ◌≡◌, Bool, true, List, leb, eqb, Float, length}
+use Rattle.std.specs.Prelude.{ℕ, ◌*◌, ◌≤◌, ◌≡◌, Bool, true, Option, Some, None, Result, Ok, Err, List, leb, eqb, Float, length}
 use Rattle.paper.specs.Choice.{◌and◌, pick, refuse}
-use Rattle.paper.specs.Geometry.{Geo, geo_ok, set_words}
-use Rattle.index_memory.specs.Memory.{Ix, own_ok, bases_ok, slot_bytes, float_zeros}
+use Rattle.paper.specs.Geometry.{Geo, GeoFacts, geo_ok, set_words, bases_len, face_words, vector_bytes}
+use Rattle.paper.specs.Refusals.{number_of}
+use Rattle.paper.specs.declared.Refusal.{Refusal}
+use Rattle.index_memory.specs.Memory.{Ix, own_ok, bases_ok, float_zeros}
 use Rattle.bitmaps.specs.Words.{empty}
 use Rattle.counting_bitmap.specs.Layers.{layer}
 use Rattle.counting_bitmap.specs.TopLayer.{top_of}
-use Rattle.counting_bitmap.specs.declared.Top.{Top}
-use Rattle.counting_bitmap.specs.declared.Top.TheVariants.{Layer, Nothing}
-use Rattle.result.specs.Sets.{empty_set}
-use Rattle.result.specs.declared.Fed.{Fed}
+use Rattle.result.specs.Sets.{Fed, empty_set}
+use Rattle.result.specs.declared.ResultSet.{ResultSet}
 use Rattle.vector.specs.Finite.{all_finite}
 use Rattle.faces.specs.Slots.{picks_of}
 use Rattle.backend_memory.specs.Ranking.{rank_of}
 use Rattle.candidates.specs.Gathering.{Query, query_of, target_finite, layers_of, dropped_of}
-use Rattle.vector_store.specs.declared.Nearest.{Nearest}
+use Rattle.vector_store.specs.declared.Nearest.{Nearest as FoundList}
 
 -- ---- the answer
+
+-- a refusal's number, 0 for none, the list, and how many ids fell off the last layer
+pub record Nearest : Type 0 where
+  pub refusal : ℕ
+  pub set : ResultSet
+  pub dropped : ℕ
 
 -- a refused search: an empty list with k 0 and checked 0, and no id dropped
 abbrev pub refused : ℕ → Nearest
 refused num = record { refusal = num; set = empty_set 0; dropped = 0 }
+
+-- an answer of the call as these three
+abbrev pub told_of : Result FoundList Refusal → Nearest
+told_of (Ok found) = record { refusal = 0; set = found.set; dropped = found.dropped }
+told_of (Err r) = refused (number_of r)
 
 -- a ranking's answer, with the dropped total beside an accepted list
 abbrev pub shown : ℕ → Fed → Nearest
 shown dropped fed = pick (eqb fed.refusal 0) (record { refusal = 0; set = fed.set; dropped = dropped }) (refused fed.refusal)
 
 -- the chosen layer's ids, ranked; 8 where no layer is chosen
-abbrev pub ranked_by : ℕ → ℕ → ℕ → List ℕ → List ℕ → List ℕ → List Float → ℕ → Top → Nearest
-ranked_by mode k w ls ms vs t dropped (Layer i) = shown dropped (rank_of mode k (layer w ls i) ms vs t)
-ranked_by mode k w ls ms vs t dropped Nothing = refused 8
+abbrev pub ranked_by : ℕ → ℕ → ℕ → List ℕ → List ℕ → List ℕ → List Float → ℕ → Option ℕ → Nearest
+ranked_by mode k w ls ms vs t dropped (Some i) = shown dropped (rank_of mode k (layer w ls i) ms vs t)
+ranked_by mode k w ls ms vs t dropped None = refused 8
 
 -- the chosen layer is the highest of n that has at least sk ids
 unfoldable pub top_rank_of : ℕ → ℕ → ℕ → ℕ → ℕ → List ℕ → List ℕ → List ℕ → List Float → ℕ → Nearest
@@ -101,31 +112,21 @@ search_of g bs ix t k sk spill m =
 pub record AcceptedSearch (n mode k sk : ℕ) (q : Query) (ms vs : List ℕ) (r : Nearest) : Type 0 where
   pub finite : target_finite q n ≡ true
   pub at : ℕ
-  pub chosen : top_of n q.w (layers_of n q) sk ≡ Layer at
+  pub chosen : top_of n q.w (layers_of n q) sk ≡ Some at
   pub good : (rank_of mode k (layer q.w (layers_of n q) at) ms vs q.target).refusal ≡ 0
   pub ranked : r.set ≡ (rank_of mode k (layer q.w (layers_of n q) at) ms vs q.target).set
   pub dropped : r.dropped ≡ 0
 
--- ---- what the inner calls ask of lengths
+-- ---- what a search past refusal 5 has of the lengths
 
-pub record TopArgs (n w mode k ll lm lv lt : ℕ) : Type 0 where
+pub record FindArgs (g : Geo) (k lb lf lm lv lt lw ll ls : ℕ) : Type 0 where
+  pub facts : GeoFacts g.d g.n g.cap g.mode
   pub k_high : k ≤ 256
-  pub w_high : w ≤ 1024
-  pub layers : ll ≡ n * w
-  pub marks : lm ≡ w
-  pub d_low : 1 ≤ lt
-  pub d_high : lt ≤ 1024
-  pub vectors : lv ≡ w * 64 * slot_bytes lt mode
-
-pub record FindArgs (n mode k lb lf lm lv lt lw ll ls : ℕ) : Type 0 where
-  pub n_high : n ≤ 32
-  pub k_high : k ≤ 256
-  pub w_high : ls ≤ 1024
-  pub d_low : 1 ≤ lt
-  pub d_high : lt ≤ 1024
-  pub bases : lb ≡ n * (lt * lt)
-  pub faces : lf ≡ n * (2 * lt * ls)
-  pub marks : lm ≡ ls
-  pub vectors : lv ≡ ls * 64 * slot_bytes lt mode
-  pub work : lw ≡ lt
-  pub layers : ll ≡ n * ls
+  pub bases : lb ≡ bases_len g.d g.n
+  pub faces : lf ≡ face_words g.d g.n g.cap
+  pub marks : lm ≡ set_words g.cap
+  pub vectors : lv ≡ vector_bytes g.d g.cap g.mode
+  pub target : lt ≡ g.d
+  pub work : lw ≡ g.d
+  pub layers : ll ≡ g.n * set_words g.cap
+  pub set : ls ≡ set_words g.cap

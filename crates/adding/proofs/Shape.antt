@@ -7,8 +7,10 @@ use borrow.Author.Tests.{ltb-true, eqb-true}
 use lib.Dec.{ltb, eqb}
 use Rattle.paper.specs.Choice.{pick, refuse}
 use Rattle.paper.specs.Geometry.{Geo, geo_ok}
+use Rattle.paper.specs.Refusals.{number_of}
+use Rattle.paper.specs.declared.Refusal.{Refusal}
+use Rattle.paper.proofs.Answering.{number_low}
 use Rattle.paper.proofs.Choice.{and_l, and_r, refuse_ok, refuse_rest}
-use Rattle.paper.proofs.GeometryFacts.{geo_facts}
 use Rattle.index_memory.specs.Memory.{own_ok, bases_ok, own_refusal}
 use Rattle.index_memory.proofs.Lengths.{own_sized, bases_long, own_tests, own_first}
 use Rattle.adding.specs.Adding.{lent_ok, lengths_ok, add_shape, Shaped}
@@ -56,10 +58,6 @@ module _ (g : Geo) (id lb lf lm lv lw lx : ℕ) (e : add_shape g id lb lf lm lv 
         id_low = ltb-true _ _ id_true;
       }
 
--- the same of the number that the tests gave
-pub shaped_by : (g : Geo) (id lb lf lm lv lw lx s : ℕ) → s ≡ add_shape g id lb lf lm lv lw lx → s ≡ 0 → Shaped g id lb lf lm lv lw lx
-shaped_by g id lb lf lm lv lw lx s e z = shaped g id lb lf lm lv lw lx (sym e ∙ z)
-
 pick_le : (b : Bool) (x y k : ℕ) → x ≤ k → y ≤ k → pick b x y ≤ k
 pick_le true x y k p q = p
 pick_le false x y k p q = q
@@ -72,17 +70,16 @@ shape_high g id lb lf lm lv lw lx =
 
 -- ---- the same three tests, as they are made
 
-module _ (g : Geo) (id lb lf lm lv lw lx own : ℕ) (e : own ≡ own_refusal g.d g.n g.cap g.mode lf lm lv) where
-  pub own_refused : (own ≡ 0 → ⊥) → own ≡ add_shape g id lb lf lm lv lw lx
+module _ (g : Geo) (id lb lf lm lv lw lx : ℕ) where
+  pub own_refused : (r : Refusal) → number_of r ≡ own_refusal g.d g.n g.cap g.mode lf lm lv → number_of r ≡ add_shape g id lb lf lm lv lw lx
   unfolding add_shape
-  own_refused h = e ∙ own_first g.d g.n g.cap g.mode lf lm lv _ _ (λ z. h (e ∙ z))
+  own_refused r e =
+      let low = number_low r in
+      e ∙ own_first g.d g.n g.cap g.mode lf lm lv _ _ (λ z. omega arith)
 
-  module _ (z : own ≡ 0) where
+  module _ (z : 0 ≡ own_refusal g.d g.n g.cap g.mode lf lm lv) where
     both : (geo_ok g.d g.n g.cap g.mode ≡ true) × (own_ok g.d g.n g.cap g.mode lf lm lv ≡ true)
-    both = own_tests g.d g.n g.cap g.mode lf lm lv (sym e ∙ z)
-
-    pub own_bounds : (g.d ≤ 1024) × (g.n ≤ 32)
-    own_bounds = let f = geo_facts g.d g.n g.cap g.mode both.0 in (f.d_high, f.n_high)
+    both = own_tests g.d g.n g.cap g.mode lf lm lv (sym z)
 
     pub lent_refused : lent_ok g.d g.n lb lw lx ≡ false → 2 ≡ add_shape g id lb lf lm lv lw lx
     unfolding add_shape

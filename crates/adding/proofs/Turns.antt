@@ -5,10 +5,10 @@ use mathlib.Core.List.{List, [], ◌∷◌, ◌++◌, append-nil, append_assoc}
 use native.Mathlib.Omega.{arith}
 use native.Mathlib.Decide.{ℕ_discrete}
 use native.Mathlib.Numerals.{add-one}
-use native.Mathlib.Nat.{mul-suc, mul_comm, mul-le-mul_left}
+use native.Mathlib.Nat.{mul_comm}
 use lib.Ieee.{Float}
-use lib.ListN.{length, take, drop, set, get_or, drop_of_length-le}
-use lib.Seq.{sets, take_all, take-suc, length-take-le, get_or-set_same, get_or-set_other}
+use lib.ListN.{length, take, drop, set, get_or}
+use lib.Seq.{sets, take-suc, length-take-le, get_or-set_same, get_or-set_other}
 use Rattle.paper.specs.Geometry.{comp_size}
 use Rattle.index_memory.specs.Memory.{face_bit}
 use Rattle.index_memory.proofs.Places.{part_is}
@@ -20,24 +20,11 @@ use Rattle.quantization.proofs.Stored.{length_lower}
 use Rattle.basis.specs.Bases.{projection_at}
 use Rattle.adding.specs.Adding.{with_faces}
 
--- ---- copying
-
-module _ {A : Type 0} where
-  pub copy_all : (s d : List A) (i : ℕ) → i ≡ length s → length d ≡ length s → take i s ++ drop i d ≡ s
-  copy_all s d i e k =
-      let le : length d ≤ i = omega arith in
-      let le' : length s ≤ i = omega arith in
-      ap (λ (r : List A). take i s ++ r) (drop_of_length-le d le) ∙ append-nil (take i s) ∙ take_all i s le'
-
 -- ---- the slots
 
 pub projection_here : (d p b : ℕ) (bs v : List Float) → p ≡ b * (d * d) → projected (take (p + d * d - p) (drop p bs)) v ≡ projection_at d bs v b
 unfolding projection_at
 projection_here d p b bs v e = rw (part_is b (d * d) p bs e)
-
--- the next basis begins where this one ends
-pub next_part : (b s p : ℕ) → p ≡ b * s → p + s ≡ (b + 1) * s
-next_part b s p e = omega arith
 
 -- one more slot written
 pub slot_more : (f : ℕ → ℕ) (slots : List ℕ) (b s : ℕ) → b < length slots → ((j : ℕ) → j < b → get_or slots j 0 ≡ f j) → s ≡ f b → (j : ℕ) → j < b + 1 → get_or (set slots b s) j 0 ≡ f j
@@ -87,6 +74,3 @@ lowered_more mode l at w i z h =
     rw (add-one, take-suc w i z h) (lowered_append mode (take i w) (get_or w i z ∷ []) ∙ ap (λ (r : List ℕ). lower_bytes mode (take i w) ++ r) (lowered_one mode (get_or w i z))) in
     sym (ap (λ (r : List ℕ). sets l at r) t ∙ sets_append l (lower_bytes mode (take i w)) (comp_bytes mode (get_or w i z)) at
     ∙ ap (λ (k : ℕ). sets (sets l at (lower_bytes mode (take i w))) (at + k) (comp_bytes mode (get_or w i z))) e)
-
-pub room : (at size i n top : ℕ) → i < n → at + size * n ≤ top → at + size * i + size ≤ top
-room at size i n top h r = omega (arith, mul-le-mul_left size h, mul-suc size i)

@@ -10,7 +10,6 @@ use Rattle.vector.specs.Norm.{norm_number, normalized}
 use Rattle.basis.specs.Bases.{projection_at, projections_finite}
 use Rattle.faces.specs.Slots.{slot_of}
 use Rattle.quantization.specs.Stored.{lower_bytes}
-use Rattle.adding.specs.declared.Slots.{Slots}
 
 -- ---- the faces of a vector
 
@@ -106,11 +105,6 @@ pub record SlotArgs (d n lb lx lw : ℕ) : Type 0 where
   pub bases : lb ≡ bases_len d n
   pub vector : lx ≡ d
   pub work : lw ≡ d
-
--- 7, or the slot of the vector's face in each basis
-pub record SlotsAre (d n : ℕ) (bs v : List Float) (r : Slots) : Type 0 where
-  pub answer : r.refusal ≡ pick (projections_finite d bs v n) 0 7
-  pub slots : r.refusal ≡ 0 → (b : ℕ) → b < n → get_or r.slots b 0 ≡ face_slot d bs v b
 
 pub record FaceArgs (d n cap id lf : ℕ) (slots : List ℕ) : Type 0 where
   pub d_high : d ≤ 1024

@@ -1,45 +1,35 @@
 // Adding a vector to an index over lent memory (vector_store.rs's add_vector, backend_memory.rs's put_vector).
 #![tactic(auto)]
 
-ghost use Rattle.std.specs.Prelude.{◌≡◌, ◌+◌, ◌*◌, ◌≤◌, eqb, length, get_or};
+ghost use Rattle.std.specs.Prelude.{◌≡◌, ◌+◌, ◌*◌, ◌<◌, ◌≤◌, ℕ, true, eqb, length, get_or, IfOk};
 ghost use Rattle.std.proofs.lemmas.List.Edits.{sets};
-ghost use Rattle.paper.specs.Choice.{pick};
-ghost use Rattle.paper.specs.Geometry.{geo, comp_size};
+ghost use Rattle.paper.specs.Choice.{pick, refuse};
+ghost use Rattle.paper.specs.Geometry.{comp_size};
+ghost use Rattle.paper.specs.Refusals.{code_of};
 ghost use Rattle.index_memory.specs.Memory.{ix_of};
+ghost use Rattle.vector.specs.Finite.{all_finite};
 ghost use Rattle.vector.specs.Norm.{norm_number, normalized};
+ghost use Rattle.basis.specs.Bases.{projections_finite};
 ghost use Rattle.quantization.specs.Stored.{lower_bytes};
-ghost use Rattle.adding.specs.Adding.{lent_ok, add_shape, late_refusal, with_faces, with_vector, written_ix, added_ix, added, add_of, SlotArgs, SlotsAre, FaceArgs, VecArgs, WriteArgs, Shaped};
+ghost use Rattle.adding.specs.Adding.{lent_ok, add_shape, late_refusal, with_faces, with_vector, written_ix, added_ix, added, add_of, face_slot, SlotArgs, FaceArgs, VecArgs, WriteArgs, Shaped};
 ghost use Rattle.adding.specs.Laws.{Laws};
 
-// Refusal 7 or 0, and for 0 the slot of a vector's face in each basis.
-#[derive(Clone, Copy)]
-struct Slots {
-    refusal: u32,
-    slots: [usize; 32],
-}
+use paper::{Geometry, Refusal};
 
 // ---- tests
 
 // Whether bases, work memory and vector have their lengths.
-fn lent_lengths_ok(d: usize, n: usize, bases: usize, work: usize, v: usize) -> bool
-    requires { (d ≤ 1024) × (n ≤ 32) }
-    ensures { result ≡ lent_ok d n bases work v }
+#[tactic(auto, unfolding(crate::specs::Adding::lent_ok))]
+fn lent_lengths_ok(g: Geometry, bases: usize, work: usize, v: usize) -> bool
+    requires { (g.d ≤ 1024) × (g.n ≤ 32) }
+    ensures { result ≡ lent_ok g.d g.n bases work v }
 {
-    if !index_memory::inner::bases_length_ok(d, n, bases) {
-        return false;
-    }
-    if work != d {
-        return false;
-    }
-    v == d
+    index_memory::inner::bases_length_ok(g, bases) && work == g.d && v == g.d
 }
 
-// 1, 2 and 3 in their order, or 0.
-fn shape_refusal(
-    d: usize,
-    n: usize,
-    cap: usize,
-    mode: usize,
+// Refuses 1, 2 and 3, in this order.
+fn check_shape(
+    g: Geometry,
     id: usize,
     bases: usize,
     faces: usize,
@@ -47,76 +37,58 @@ fn shape_refusal(
     vectors: usize,
     work: usize,
     v: usize,
-) -> u32
-    ensures { result ≡ add_shape (geo d n cap mode) id bases faces marks vectors work v }
+) -> Result<(), Refusal>
+    ensures told { code_of result ≡ add_shape g id bases faces marks vectors work v }
+    ensures shaped { IfOk result (λ _. Shaped g id bases faces marks vectors work v) }
 {
-    let own = index_memory::own_refusal(d, n, cap, mode, faces, marks, vectors);
-    if own != 0 {
-        return own;
+    index_memory::check_own(g, faces, marks, vectors)?;
+    if !lent_lengths_ok(g, bases, work, v) {
+        return Err(Refusal::WrongLength);
     }
-    if !lent_lengths_ok(d, n, bases, work, v) {
-        return paper::WRONG_LENGTH;
+    if g.cap <= id {
+        return Err(Refusal::WrongId);
     }
-    if id < cap { 0 } else { paper::WRONG_ID }
+    Ok(())
 }
 
 // ---- the parts of an addition
 
-// Copies the vector.
-fn copy_into(v: &[f32], work: &mut [f32])
-    requires { length work.old ≡ length v.now }
-    ensures { work.new ≡ v.now }
-{
-    let mut i = 0;
-    while i < v.len() {
-        work[i] = v[i];
-        i += 1;
-    }
-}
-
 // The vector normalised, in the work memory; or the refusal of normalising.
-fn normalize_into(v: &[f32], work: &mut [f32]) -> u32
+fn normalize_into(v: &[f32], work: &mut [f32]) -> Result<(), Refusal>
     requires { length work.old ≡ length v.now }
-    ensures { (result ≡ norm_number v.now) × (work.new ≡ normalized v.now) }
+    ensures { (code_of result ≡ norm_number v.now) × (work.new ≡ normalized v.now) }
 {
-    copy_into(v, work);
+    work.copy_from_slice(v);
     vector::normalize(work)
 }
 
 // The slot of the vector's face in each basis; 7 as soon as a projection has an entry that is not finite. Each basis is projected on once: the
 // slots wait here until every check has passed.
-fn slots_of(bases: &[f32], v: &[f32], work: &mut [f32], d: usize, n: usize) -> Slots
-    requires { SlotArgs d n (length bases.now) (length v.now) (length work.old) }
-    ensures { SlotsAre d n bases.now v.now result }
+fn slots_of(bases: &[f32], v: &[f32], work: &mut [f32], g: Geometry) -> Result<[usize; 32], Refusal>
+    requires { SlotArgs g.d g.n (length bases.now) (length v.now) (length work.old) }
+    ensures told { code_of result ≡ refuse 7 (projections_finite g.d bases.now v.now g.n) 0 }
+    ensures found { IfOk result (λ slots. (b : ℕ) → b < g.n → get_or slots b 0 ≡ face_slot g.d bases.now v.now b) }
 {
-    let square = d * d;
+    let square = g.d * g.d;
     let mut slots = [0usize; 32];
-    let mut b = 0;
-    let mut p = 0;
-    while b < n {
+    for b in 0..g.n {
+        let p = b * square;
         basis::inner::project(&bases[p..p + square], v, work);
         if !vector::all_finite(work) {
-            return Slots {
-                refusal: paper::NO_PROJECTION,
-                slots,
-            };
+            return Err(Refusal::NoProjection);
         }
         slots[b] = faces::inner::slot(work);
-        p += square;
-        b += 1;
     }
-    Slots { refusal: 0, slots }
+    Ok(slots)
 }
 
 // Puts the id into the face set of its slot, for each basis.
-fn add_to_bitmaps(faces: &mut [u64], slots: [usize; 32], d: usize, n: usize, cap: usize, id: usize)
-    requires { FaceArgs d n cap id (length faces.old) slots }
-    ensures { faces.new ≡ with_faces d cap id (λ b. get_or slots b 0) n faces.old }
+fn add_to_bitmaps(faces: &mut [u64], slots: [usize; 32], g: Geometry, id: usize)
+    requires { FaceArgs g.d g.n g.cap id (length faces.old) slots }
+    ensures { faces.new ≡ with_faces g.d g.cap id (λ b. get_or slots b 0) g.n faces.old }
 {
-    let mut b = 0;
-    while b < n {
-        bitmaps::inner::add(faces, (b * (2 * d) + slots[b]) * cap + id);
-        b += 1;
+    for b in 0..g.n {
+        bitmaps::inner::add(faces, (b * (2 * g.d) + slots[b]) * g.cap + id);
     }
 }
 
@@ -126,29 +98,19 @@ fn put_components(vectors: &mut [u8], work: &[f32], at: usize, mode: usize)
     ensures { vectors.new ≡ sets vectors.old at (lower_bytes mode work.now) }
 {
     let size = paper::component_size(mode);
-    let mut i = 0;
-    while i < work.len() {
-        quantization::inner::put_component(vectors, at + size * i, work[i], mode);
-        i += 1;
+    for (i, x) in work.iter().enumerate() {
+        quantization::inner::put_component(vectors, at + size * i, *x, mode);
     }
 }
 
 // Stores the normalised vector, lowered, in the id's slot.
-fn put_vector(
-    vectors: &mut [u8],
-    v: &[f32],
-    work: &mut [f32],
-    d: usize,
-    cap: usize,
-    mode: usize,
-    id: usize,
-)
-    requires { VecArgs d cap mode id (length vectors.old) (length v.now) (length work.old) }
-    ensures { vectors.new ≡ with_vector d mode id v.now vectors.old }
+fn put_vector(vectors: &mut [u8], v: &[f32], work: &mut [f32], g: Geometry, id: usize)
+    requires { VecArgs g.d g.cap g.mode id (length vectors.old) (length v.now) (length work.old) }
+    ensures { vectors.new ≡ with_vector g.d g.mode id v.now vectors.old }
 {
-    normalize_into(v, work);
-    let size = paper::component_size(mode);
-    put_components(vectors, work, id * (size * d), mode);
+    let _ = normalize_into(v, work);
+    let size = paper::component_size(g.mode);
+    put_components(vectors, work, id * (size * g.d), g.mode);
 }
 
 // Writes an addition that nothing refuses any more.
@@ -159,21 +121,18 @@ fn write(
     work: &mut [f32],
     v: &[f32],
     slots: [usize; 32],
-    d: usize,
-    n: usize,
-    cap: usize,
-    mode: usize,
+    g: Geometry,
     id: usize,
 )
-    requires { WriteArgs d n cap mode id (length faces.old) (length marks.old) (length vectors.old) (length work.old) (length v.now) slots }
-    ensures { ix_of faces.new marks.new vectors.new ≡ written_ix (geo d n cap mode) (λ b. get_or slots b 0) id v.now (ix_of faces.old marks.old vectors.old) }
+    requires { WriteArgs g.d g.n g.cap g.mode id (length faces.old) (length marks.old) (length vectors.old) (length work.old) (length v.now) slots }
+    ensures { ix_of faces.new marks.new vectors.new ≡ written_ix g (λ b. get_or slots b 0) id v.now (ix_of faces.old marks.old vectors.old) }
 {
-    add_to_bitmaps(faces, slots, d, n, cap, id);
+    add_to_bitmaps(faces, slots, g, id);
     bitmaps::inner::add(marks, id);
-    put_vector(vectors, v, work, d, cap, mode, id);
+    put_vector(vectors, v, work, g, id);
 }
 
-// 6 and 7, and the addition if neither is given. What the work memory holds afterwards is for the caller to clear.
+// Refuses 6 and 7; else makes the addition. What the work memory holds afterwards is for the caller to clear.
 fn check_and_write(
     bases: &[f32],
     faces: &mut [u64],
@@ -181,25 +140,18 @@ fn check_and_write(
     vectors: &mut [u8],
     work: &mut [f32],
     v: &[f32],
-    d: usize,
-    n: usize,
-    cap: usize,
-    mode: usize,
+    g: Geometry,
     id: usize,
-) -> u32
-    requires { Shaped (geo d n cap mode) id (length bases.now) (length faces.old) (length marks.old) (length vectors.old) (length work.old) (length v.now) }
-    ensures { (result ≡ late_refusal d n bases.now v.now) × (ix_of faces.new marks.new vectors.new ≡ pick (eqb result 0) (added_ix (geo d n cap mode) bases.now id v.now (ix_of faces.old marks.old vectors.old)) (ix_of faces.old marks.old vectors.old)) }
+) -> Result<(), Refusal>
+    requires shaped { Shaped g id (length bases.now) (length faces.old) (length marks.old) (length vectors.old) (length work.old) (length v.now) }
+    requires finite { all_finite v.now ≡ true }
+    ensures told { code_of result ≡ late_refusal g.d g.n bases.now v.now }
+    ensures index { ix_of faces.new marks.new vectors.new ≡ pick (eqb (code_of result) 0) (added_ix g bases.now id v.now (ix_of faces.old marks.old vectors.old)) (ix_of faces.old marks.old vectors.old) }
 {
-    if normalize_into(v, work) != 0 {
-        return paper::NO_NORM;
-    }
-    let found = slots_of(bases, v, work, d, n);
-    if found.refusal != 0 {
-        return paper::NO_PROJECTION;
-    }
-    let slots = found.slots;
-    write(faces, marks, vectors, work, v, slots, d, n, cap, mode, id);
-    0
+    normalize_into(v, work)?;
+    let slots = slots_of(bases, v, work, g)?;
+    write(faces, marks, vectors, work, v, slots, g, id);
+    Ok(())
 }
 
 // ---- the call
@@ -214,19 +166,13 @@ pub fn add_vector(
     vectors: &mut [u8],
     work: &mut [f32],
     v: &[f32],
-    d: usize,
-    n: usize,
-    cap: usize,
-    mode: usize,
+    g: Geometry,
     id: usize,
-) -> u32
-    ensures { added result (ix_of faces.new marks.new vectors.new) work.new ≡ add_of (geo d n cap mode) bases.now id v.now (ix_of faces.old marks.old vectors.old) work.old }
+) -> Result<(), Refusal>
+    ensures { added (code_of result) (ix_of faces.new marks.new vectors.new) work.new ≡ add_of g bases.now id v.now (ix_of faces.old marks.old vectors.old) work.old }
 {
-    let s = shape_refusal(
-        d,
-        n,
-        cap,
-        mode,
+    check_shape(
+        g,
         id,
         bases.len(),
         faces.len(),
@@ -234,16 +180,13 @@ pub fn add_vector(
         vectors.len(),
         work.len(),
         v.len(),
-    );
-    if s != 0 {
-        return s;
-    }
+    )?;
     if !vector::all_finite(v) {
-        return paper::NOT_FINITE;
+        return Err(Refusal::NotFinite);
     }
-    let r = check_and_write(bases, faces, marks, vectors, work, v, d, n, cap, mode, id);
-    index_memory::inner::clear_floats(work);
-    r
+    let answer = check_and_write(bases, faces, marks, vectors, work, v, g, id);
+    work.fill(0.0);
+    answer
 }
 
 // The laws of this crate, claimed: specs/Laws.antt says each of them.

@@ -4,8 +4,10 @@ ghost use Rattle.std.specs.Prelude.{◌≡◌, ◌++◌, ◌+◌, ◌*◌, ◌<�
 ghost use Rattle.basis.specs.Project.{projected, rows_from, Square};
 ghost use Rattle.basis.specs.Four.{column_of, dot_four, fold_four, set_four};
 
+// Not one function for N rows over `[f32; N]` (tried: 5 to 30 in a hundred slower at up to 32 dimensions, level above), so four and eight have their own.
+
 // The sums of four rows.
-#[derive(Clone, Copy)]
+#[derive(Clone, Copy, Default)]
 pub struct Four {
     pub a: f32,
     pub b: f32,
@@ -54,20 +56,15 @@ fn dots_of_four(basis: &[f32], at: usize, target: &[f32]) -> Four
     ensures { result ≡ dot_four target.now basis.now at }
 {
     let d = target.len();
-    let mut t = Four {
-        a: 0.0,
-        b: 0.0,
-        c: 0.0,
-        e: 0.0,
-    };
+    let mut t = Four::default();
+    // A stride whose end the next loop takes up, so a `while`.
     let mut i = 0;
     while 4 <= d - i {
         t = block(t, basis, at, target, i);
         i += 4;
     }
-    while i < d {
-        t = column(t, basis, at + i, d, target[i]);
-        i += 1;
+    for j in i..d {
+        t = column(t, basis, at + j, d, target[j]);
     }
     t
 }
@@ -79,28 +76,18 @@ fn dots_of_eight(basis: &[f32], at: usize, target: &[f32]) -> Eight
 {
     let d = target.len();
     let up = at + 4 * d;
-    let mut t = Four {
-        a: 0.0,
-        b: 0.0,
-        c: 0.0,
-        e: 0.0,
-    };
-    let mut u = Four {
-        a: 0.0,
-        b: 0.0,
-        c: 0.0,
-        e: 0.0,
-    };
+    let mut t = Four::default();
+    let mut u = Four::default();
+    // A stride whose end the next loop takes up, so a `while`.
     let mut i = 0;
     while 4 <= d - i {
         t = block(t, basis, at, target, i);
         u = block(u, basis, up, target, i);
         i += 4;
     }
-    while i < d {
-        t = column(t, basis, at + i, d, target[i]);
-        u = column(u, basis, up + i, d, target[i]);
-        i += 1;
+    for j in i..d {
+        t = column(t, basis, at + j, d, target[j]);
+        u = column(u, basis, up + j, d, target[j]);
     }
     Eight { lo: t, hi: u }
 }
@@ -122,11 +109,10 @@ fn rows_by_eight(basis: &[f32], target: &[f32], work: &mut [f32]) -> usize
     ensures { (result ≤ length target.now) × (take result work.new ++ rows_from basis.now target.now result ≡ projected basis.now target.now) }
 {
     let d = target.len();
+    // A stride whose end the caller takes up, so a `while`.
     let mut r = 0;
     while 8 <= d - r {
-        let q = dots_of_eight(basis, r * d, target);
-        let lo = q.lo;
-        let hi = q.hi;
+        let Eight { lo, hi } = dots_of_eight(basis, r * d, target);
         put_four(work, r, lo);
         put_four(work, r + 4, hi);
         r += 8;
@@ -140,6 +126,7 @@ fn rows_by_four(basis: &[f32], target: &[f32], work: &mut [f32], from: usize) ->
     ensures { (result ≤ length target.now) × (take result work.new ++ rows_from basis.now target.now result ≡ take from work.old ++ rows_from basis.now target.now from) }
 {
     let d = target.len();
+    // A stride whose end the caller takes up, so a `while`.
     let mut r = from;
     while 4 <= d - r {
         let q = dots_of_four(basis, r * d, target);
@@ -156,11 +143,9 @@ pub fn project(basis: &[f32], target: &[f32], work: &mut [f32])
 {
     let d = target.len();
     let eights = rows_by_eight(basis, target, work);
-    let mut r = rows_by_four(basis, target, work, eights);
-    while r < d {
+    let fours = rows_by_four(basis, target, work, eights);
+    for r in fours..d {
         let a = r * d;
-        let e = a + d;
-        work[r] = vector::inner::dot_of(target, &basis[a..e]);
-        r += 1;
+        work[r] = vector::inner::dot_of(target, &basis[a..a + d]);
     }
 }

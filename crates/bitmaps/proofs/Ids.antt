@@ -142,14 +142,3 @@ walk_start s = let e : length s * 64 - 0 ≡ length s * 64 = omega arith in rw e
 pub next_first : (s : List ℕ) (from : ℕ) (r : Option ℕ) → NextIs s from r → r ≡ first_of (ids_from s from)
 next_first s from (Some i) p = sym (ap first_of (walk_on s from i p))
 next_first s from None p = sym (ap first_of (walk_end s from p))
-
--- two answers that meet the contract of `next` are the same
-pub next_unique : (s : List ℕ) (from : ℕ) (r r' : Option ℕ) → NextIs s from r → NextIs s from r' → r ≡ r'
-next_unique s from (Some i) (Some j) p q =
-    let low : i ≤ j = ⊎_elim (λ (l : i ≤ j). l) (λ (l : j < i). absurd (omega (arith, p.3 j q.0 l, q.2))) (le_or_lt i j) in
-    let high : j ≤ i = ⊎_elim (λ (l : j ≤ i). l) (λ (l : i < j). absurd (omega (arith, q.3 i p.0 l, p.2))) (le_or_lt j i) in
-    let same : i ≡ j = omega arith in
-    ap Some same
-next_unique s from (Some i) None p q = absurd (omega (arith, q i p.0, p.2))
-next_unique s from None (Some j) p q = absurd (omega (arith, p j q.0, q.2))
-next_unique s from None None p q = refl

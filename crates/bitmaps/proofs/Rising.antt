@@ -10,7 +10,9 @@ use lib.Bits.{bit_or}
 use lib.Seq.{get_or-set_same, get_or-set_other}
 use lib.Pow.{shr-shr, pow_mono, shr_le}
 use lib.Count.{count_trailing_zeros, under}
+use Rattle.std.specs.Prelude.{Some}
 use Rattle.bitmaps.specs.Words.{digit, has, inserted}
+use Rattle.bitmaps.specs.Walk.{NextIs}
 use Rattle.bitmaps.proofs.Digits.{Words, digit_suc, or_digit}
 
 pub le_or_lt : (a b : ℕ) → (a ≤ b) ⊎ (b < a)
@@ -64,7 +66,7 @@ module _ (a : List ℕ) (q s y : ℕ) (w : Words a) (hs : s < 64) (e : y ≡ get
   left : (i m : ℕ) → s + m < 64 → i ≡ q * 64 + s + m → has a i ≡ digit y m
   left i m h ei = has_at a q (s + m) i h (omega arith) ∙ sym (digit_shift (get_or a q 0) s m) ∙ ap (λ (x : ℕ). digit x m) (sym e)
 
-  pub inside : 0 < y → s + count_trailing_zeros 64 y < 64
+  inside : 0 < y → s + count_trailing_zeros 64 y < 64
   inside p =
       ⊎_elim
       (λ (l : 64 ≤ s + count_trailing_zeros 64 y).
@@ -75,16 +77,30 @@ module _ (a : List ℕ) (q s y : ℕ) (w : Words a) (hs : s < 64) (e : y ≡ get
       (λ l. l)
       (le_or_lt 64 (s + count_trailing_zeros 64 y))
 
-  pub found : 0 < y → (i : ℕ) → i ≡ q * 64 + s + count_trailing_zeros 64 y → has a i ≡ 1
+  found : 0 < y → (i : ℕ) → i ≡ q * 64 + s + count_trailing_zeros 64 y → has a i ≡ 1
   found p i ei = left i (count_trailing_zeros 64 y) (inside p) ei ∙ (trailing_lowest 64 y y_word p).0
 
-  pub before : 0 < y → (j : ℕ) → q * 64 + s ≤ j → j < q * 64 + s + count_trailing_zeros 64 y → has a j ≡ 0
+  before : 0 < y → (j : ℕ) → q * 64 + s ≤ j → j < q * 64 + s + count_trailing_zeros 64 y → has a j ≡ 0
   before p j l h =
       let i = inside p in
       left j (j - (q * 64 + s)) (omega arith) (omega arith) ∙ (trailing_lowest 64 y y_word p).1 (j - (q * 64 + s)) (omega arith)
 
-  pub bare : y ≡ 0 → (j : ℕ) → q * 64 + s ≤ j → j < (q + 1) * 64 → has a j ≡ 0
+  bare : y ≡ 0 → (j : ℕ) → q * 64 + s ≤ j → j < (q + 1) * 64 → has a j ≡ 0
   bare z j l h = left j (j - (q * 64 + s)) (omega arith) (omega arith) ∙ rw (z, zero-div)
+
+  -- where no id stands between a place and digit s of word q: the next id is the lowest of y, or there is none in the word
+  module _ (from : ℕ) (none : (j : ℕ) → from ≤ j → j < q * 64 + s → has a j ≡ 0) where
+    pub next_here : 0 < y → (i : ℕ) → i ≡ q * 64 + s + count_trailing_zeros 64 y → from ≤ q * 64 + s → q < length a → NextIs a from (Some i)
+    next_here p i ei l h =
+        let t = inside p in (
+          omega arith,
+          omega arith,
+          found p i ei,
+          λ j k b. ⊎_elim (λ (g : q * 64 + s ≤ j). before p j g (omega arith)) (λ (g : j < q * 64 + s). none j k g) (le_or_lt (q * 64 + s) j),
+        )
+
+    pub none_here : y ≡ 0 → (j : ℕ) → from ≤ j → j < (q + 1) * 64 → has a j ≡ 0
+    none_here z j k b = ⊎_elim (λ (g : q * 64 + s ≤ j). bare z j g b) (λ (g : j < q * 64 + s). none j k g) (le_or_lt (q * 64 + s) j)
 
 pub past_end : (a : List ℕ) (j : ℕ) → length a * 64 ≤ j → has a j ≡ 0
 past_end a j h = rw (get_or-eq_default a 0 {n = j / 64} (omega arith), zero-div)

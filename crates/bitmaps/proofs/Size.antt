@@ -5,12 +5,15 @@ use native.Mathlib.Numerals.{add-one}
 use native.Mathlib.Omega.{arith}
 use mathlib.Core.Path.{◌≡◌, refl, ap, ap₂, sym, ◌∙◌}
 use mathlib.Core.List.{List, [], ◌∷◌, ◌++◌}
+use lib.Dec.{eqb}
+use borrow.Author.Tests.{ne_eqb}
+use Rattle.std.specs.List.{list_all}
 use lib.ListN.{length, get_or, drop}
 use lib.Seq.{drop-cons}
 use lib.Count.{ones, ones_step, ones-le}
 use lib.Arith.{bin_ind}
 use lib.Bits.{bit_and, bit_or, and_shr, or_shr, and_step, or_step}
-use Rattle.bitmaps.specs.Words.{size, empty, sum_to, digit, has, by_word, union, shared}
+use Rattle.bitmaps.specs.Words.{size, is_empty, empty, sum_to, digit, has, by_word, union, shared}
 use Rattle.bitmaps.proofs.Digits.{Words, digit_suc}
 
 -- the words from i on: the word at i, and the words from i + 1 on
@@ -21,6 +24,13 @@ size_drop a i h = rw (add-one, drop-cons a i 0 h)
 -- a word without a digit is 0
 pub ones_none : (n : ℕ) → ones n ≡ 0 → n ≡ 0
 ones_none = bin_ind (λ (n : ℕ). ones n ≡ 0 → n ≡ 0) (λ e. refl) (λ n ih e. let r : n / 2 ≡ 0 = ih (omega (arith, ones_step n)) in omega (arith, ones_step n))
+
+-- a set is empty where every word is 0
+pub all_none : (a : List ℕ) → is_empty a ≡ list_all (λ w. eqb w 0) a
+unfolding size ones
+all_none [] = refl
+all_none (zero ∷ a) = ap (λ (n : ℕ). eqb n 0) (omega arith) ∙ all_none a
+all_none (suc x ∷ a) = rw (ne_eqb (suc x) 0 (omega arith)) (ne_eqb _ _ (λ e. absurd (omega (arith, ones_none (suc x) (omega arith)))))
 
 -- ---- sums
 

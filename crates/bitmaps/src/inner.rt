@@ -1,18 +1,27 @@
 // The loops over words, for the crates above: the sets have one length, and an id is below it.
-ghost use Rattle.std.specs.Prelude.{◌≡◌, ◌*◌, ◌<◌, ◌≤◌, length};
-ghost use Rattle.bitmaps.specs.Words.{union, exclusive, without, inserted, size, has, holds, is_empty, empty};
+ghost use Rattle.std.specs.Prelude.{◌≡◌, ℕ, ◌*◌, ◌^◌, ◌<◌, ◌≤◌, length};
+ghost use Rattle.bitmaps.specs.Words.{by_word, union, exclusive, without, inserted, size, has, holds, is_empty, empty};
 ghost use Rattle.bitmaps.specs.Walk.{NextIs};
+
+// An operation on two sets, word by word: `op` says what `f` gives.
+fn by_word<F: Fn(u64, u64) -> u64>(a: &mut [u64], b: &[u64], f: F)
+    ghost op: { ℕ → ℕ → ℕ }
+    requires same { length a.old ≡ length b.now }
+    requires callable { F.IsAlwaysCallable f }
+    requires gives { (x y r : ℕ) → x < 2 ^ 64 → y < 2 ^ 64 → F.post f x y r → r ≡ op x y }
+    ensures { a.new ≡ by_word op a.old b.now }
+{
+    for i in 0..a.len() {
+        a[i] = f(a[i], b[i]);
+    }
+}
 
 // The ids of either.
 pub fn or(a: &mut [u64], b: &[u64])
     requires { length a.old ≡ length b.now }
     ensures { a.new ≡ union a.old b.now }
 {
-    let mut i = 0;
-    while i < a.len() {
-        a[i] = a[i] | b[i];
-        i += 1;
-    }
+    by_word(a, b, |x, y| x | y);
 }
 
 // The ids of just one of the two.
@@ -20,11 +29,7 @@ pub fn xor(a: &mut [u64], b: &[u64])
     requires { length a.old ≡ length b.now }
     ensures { a.new ≡ exclusive a.old b.now }
 {
-    let mut i = 0;
-    while i < a.len() {
-        a[i] = a[i] ^ b[i];
-        i += 1;
-    }
+    by_word(a, b, |x, y| x ^ y);
 }
 
 // The ids of the first that are not in the second.
@@ -32,11 +37,7 @@ pub fn and_not(a: &mut [u64], b: &[u64])
     requires { length a.old ≡ length b.now }
     ensures { a.new ≡ without a.old b.now }
 {
-    let mut i = 0;
-    while i < a.len() {
-        a[i] = a[i] & !b[i];
-        i += 1;
-    }
+    by_word(a, b, |x, y| x & !y);
 }
 
 // The number of ids.
@@ -44,11 +45,9 @@ pub fn count(a: &[u64]) -> u32
     requires { length a.now ≤ 1024 }
     ensures { result ≡ size a.now }
 {
-    let mut n: u32 = 0;
-    let mut word = 0;
-    while word < a.len() {
-        n += u64::count_ones(a[word]);
-        word += 1;
+    let mut n = 0;
+    for word in a {
+        n += word.count_ones();
     }
     n
 }
@@ -57,14 +56,7 @@ pub fn count(a: &[u64]) -> u32
 pub fn is_empty(a: &[u64]) -> bool
     ensures { result ≡ is_empty a.now }
 {
-    let mut i = 0;
-    while i < a.len() {
-        if a[i] != 0 {
-            return false;
-        }
-        i += 1;
-    }
-    true
+    a.iter().all(|w| *w == 0)
 }
 
 // Puts an id into the set.
@@ -72,8 +64,7 @@ pub fn add(a: &mut [u64], id: usize)
     requires { id < length a.old * 64 }
     ensures { a.new ≡ inserted a.old id }
 {
-    let q = id / 64;
-    a[q] = a[q] | 1 << (id % 64);
+    a[id / 64] |= 1 << (id % 64);
 }
 
 // The digit of an id: 1 where the set has it.
@@ -81,8 +72,7 @@ pub fn bit_of(a: &[u64], id: usize) -> u64
     requires { id < length a.now * 64 }
     ensures { result ≡ has a.now id }
 {
-    let q = id / 64;
-    (a[q] >> (id % 64)) % 2
+    (a[id / 64] >> (id % 64)) % 2
 }
 
 // Whether the set has an id.
@@ -98,21 +88,16 @@ pub fn next(a: &[u64], from: usize) -> Option<usize>
     requires { length a.now ≤ 1024 }
     ensures { NextIs a.now from result }
 {
-    let mut q = from / 64;
-    if a.len() <= q {
-        return None;
-    }
-    let first = a[q] >> (from % 64);
+    let q = from / 64;
+    let first = *a.get(q)? >> (from % 64);
     if first != 0 {
-        return Some(from + u64::trailing_zeros(first) as usize);
+        return Some(from + first.trailing_zeros() as usize);
     }
-    q += 1;
-    while q < a.len() {
-        let x = a[q];
+    for i in q + 1..a.len() {
+        let x = a[i];
         if x != 0 {
-            return Some(q * 64 + u64::trailing_zeros(x) as usize);
+            return Some(i * 64 + x.trailing_zeros() as usize);
         }
-        q += 1;
     }
     None
 }
@@ -121,9 +106,5 @@ pub fn next(a: &[u64], from: usize) -> Option<usize>
 pub fn clear(a: &mut [u64])
     ensures { a.new ≡ empty (length a.old) }
 {
-    let mut at = 0;
-    while at < a.len() {
-        a[at] = 0;
-        at += 1;
-    }
+    a.fill(0);
 }

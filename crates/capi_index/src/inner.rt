@@ -3,6 +3,7 @@ ghost use Rattle.std.specs.Prelude.{◌≡◌, ◌∷◌, [], length};
 ghost use Rattle.capi_sets.specs.Lists.{outs, listed, Fits};
 ghost use Rattle.capi_index.specs.Searches.{into_nearest};
 
+use capi_vectors::inner::copy_front;
 use vector_store::Nearest;
 
 // Three numbers into three places.
@@ -25,8 +26,8 @@ pub fn put_nearest(nearest: Nearest, ids: &mut [u32], scores: &mut [f32], counts
     }
     let set = nearest.set;
     let len = set.len;
-    capi_sets::inner::copy_ids(&set.ids, len, ids);
-    capi_sets::inner::copy_scores(&set.sims, len, scores);
+    copy_front(&set.ids, len, ids);
+    copy_front(&set.sims, len, scores);
     tell_three(counts, len as u32, set.checked, nearest.dropped);
     0
 }

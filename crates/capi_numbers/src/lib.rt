@@ -7,6 +7,8 @@ ghost use Rattle.paper.specs.Geometry.{geo, lengths_of};
 ghost use Rattle.sqrt.specs.Root.{Sqrt};
 ghost use Rattle.quantization.specs.Bf16.{lowered, widened};
 
+use paper::Geometry;
+
 // ---- bits
 
 // The bits of the root of the binary32 with these bits (sqrt::sqrt_bits).
@@ -33,14 +35,14 @@ pub extern "C" fn bbq_widen(half: u16) -> u32
     quantization::widen(half)
 }
 
-// ---- how much to lend, in floats, words of 64 bits, or bytes; 0 for a geometry that the calls refuse (paper::lengths_for)
+// ---- how much to lend, in floats, words of 64 bits, or bytes; 0 for a geometry that the calls refuse (paper's Geometry::lengths)
 
 // The floats of the bases.
 #[unsafe(no_mangle)]
 pub extern "C" fn bbq_bases_len(d: usize, n: usize, cap: usize, mode: usize) -> usize
     ensures { result ≡ (lengths_of (geo d n cap mode)).bases }
 {
-    paper::lengths_for(d, n, cap, mode).bases
+    Geometry { d, n, cap, mode }.lengths().bases
 }
 
 // The words of the face sets.
@@ -48,7 +50,7 @@ pub extern "C" fn bbq_bases_len(d: usize, n: usize, cap: usize, mode: usize) -> 
 pub extern "C" fn bbq_faces_len(d: usize, n: usize, cap: usize, mode: usize) -> usize
     ensures { result ≡ (lengths_of (geo d n cap mode)).faces }
 {
-    paper::lengths_for(d, n, cap, mode).faces
+    Geometry { d, n, cap, mode }.lengths().faces
 }
 
 // The words of the present marks.
@@ -56,7 +58,7 @@ pub extern "C" fn bbq_faces_len(d: usize, n: usize, cap: usize, mode: usize) -> 
 pub extern "C" fn bbq_marks_len(d: usize, n: usize, cap: usize, mode: usize) -> usize
     ensures { result ≡ (lengths_of (geo d n cap mode)).marks }
 {
-    paper::lengths_for(d, n, cap, mode).marks
+    Geometry { d, n, cap, mode }.lengths().marks
 }
 
 // The bytes of the stored vectors.
@@ -64,7 +66,7 @@ pub extern "C" fn bbq_marks_len(d: usize, n: usize, cap: usize, mode: usize) -> 
 pub extern "C" fn bbq_vectors_len(d: usize, n: usize, cap: usize, mode: usize) -> usize
     ensures { result ≡ (lengths_of (geo d n cap mode)).vectors }
 {
-    paper::lengths_for(d, n, cap, mode).vectors
+    Geometry { d, n, cap, mode }.lengths().vectors
 }
 
 // The floats of the work memory.
@@ -72,7 +74,7 @@ pub extern "C" fn bbq_vectors_len(d: usize, n: usize, cap: usize, mode: usize) -
 pub extern "C" fn bbq_work_len(d: usize, n: usize, cap: usize, mode: usize) -> usize
     ensures { result ≡ (lengths_of (geo d n cap mode)).floats }
 {
-    paper::lengths_for(d, n, cap, mode).floats
+    Geometry { d, n, cap, mode }.lengths().floats
 }
 
 // The words of a search's counting layers.
@@ -80,7 +82,7 @@ pub extern "C" fn bbq_work_len(d: usize, n: usize, cap: usize, mode: usize) -> u
 pub extern "C" fn bbq_layers_len(d: usize, n: usize, cap: usize, mode: usize) -> usize
     ensures { result ≡ (lengths_of (geo d n cap mode)).layers }
 {
-    paper::lengths_for(d, n, cap, mode).layers
+    Geometry { d, n, cap, mode }.lengths().layers
 }
 
 // The words of the set that a search merges.
@@ -88,5 +90,5 @@ pub extern "C" fn bbq_layers_len(d: usize, n: usize, cap: usize, mode: usize) ->
 pub extern "C" fn bbq_set_len(d: usize, n: usize, cap: usize, mode: usize) -> usize
     ensures { result ≡ (lengths_of (geo d n cap mode)).set }
 {
-    paper::lengths_for(d, n, cap, mode).set
+    Geometry { d, n, cap, mode }.lengths().set
 }

@@ -1,51 +1,23 @@
 // What these calls and those on an index share: the test of the lent arrays, and writing an answer into them.
-ghost use Rattle.std.specs.Prelude.{◌≡◌, ◌∷◌, [], ◌≤◌, length};
+ghost use Rattle.std.specs.Prelude.{◌≡◌, ◌∷◌, [], length};
 ghost use Rattle.result.specs.Places.{entries};
 ghost use Rattle.result.specs.Sets.{feed_all_of};
-ghost use Rattle.capi_vectors.specs.Single.{single, laid_over};
+ghost use Rattle.capi_vectors.specs.Single.{single};
 ghost use Rattle.capi_sets.specs.Layers.{dropped_put, layer_put};
 ghost use Rattle.capi_sets.specs.Lists.{room_ok, outs, listed, into_fed, feeding_of, Fits};
 
+use capi_vectors::inner::copy_front;
 use counting_bitmap::{Chosen, Merged};
 use result::{Fed, ResultSet};
 
 // ---- a list in its arrays
 
 // Whether ids and scores have k places, and `counts` has m.
+#[tactic(auto, unfolding(crate::specs::Lists::room_ok))]
 pub fn room_ok(k: usize, m: usize, ids: usize, scores: usize, counts: usize) -> bool
     ensures { result ≡ room_ok k m ids scores counts }
 {
-    if ids != k {
-        return false;
-    }
-    if scores != k {
-        return false;
-    }
-    counts == m
-}
-
-// The first n of `from` over the first n of `to`.
-pub fn copy_ids(from: &[u32], n: usize, to: &mut [u32])
-    requires { (n ≤ length from.now) × (n ≤ length to.old) }
-    ensures { to.new ≡ laid_over n from.now to.old }
-{
-    let mut i = 0;
-    while i < n {
-        to[i] = from[i];
-        i += 1;
-    }
-}
-
-// The same for scores.
-pub fn copy_scores(from: &[f32], n: usize, to: &mut [f32])
-    requires { (n ≤ length from.now) × (n ≤ length to.old) }
-    ensures { to.new ≡ laid_over n from.now to.old }
-{
-    let mut i = 0;
-    while i < n {
-        to[i] = from[i];
-        i += 1;
-    }
+    ids == k && scores == k && counts == m
 }
 
 // Two numbers into two places.
@@ -67,8 +39,8 @@ pub fn put_fed(fed: Fed, ids: &mut [u32], scores: &mut [f32], counts: &mut [u32]
     }
     let set = fed.set;
     let len = set.len;
-    copy_ids(&set.ids, len, ids);
-    copy_scores(&set.sims, len, scores);
+    copy_front(&set.ids, len, ids);
+    copy_front(&set.sims, len, scores);
     tell_two(counts, len as u32, set.checked);
     0
 }
@@ -81,14 +53,12 @@ pub fn feed_all(set: ResultSet, ids: &[u32], scores: &[f32]) -> Fed
     ensures { result ≡ feed_all_of set (entries (length ids.now) ids.now scores.now) }
 {
     let mut kept = set;
-    let mut i = 0;
-    while i < ids.len() {
+    for i in 0..ids.len() {
         let fed = kept.feed(ids[i], scores[i]);
         if fed.refusal != 0 {
             return fed;
         }
         kept = fed.set;
-        i += 1;
     }
     Fed {
         refusal: 0,

@@ -1,22 +1,9 @@
 -- The calls on vectors and projections, with their answers in lent places. Definitions only.
-use Rattle.std.specs.Prelude.{ℕ, Bool, List, [], ◌∷◌, eqb, leb, ℤ, Float, length}
+use Rattle.std.specs.Prelude.{ℕ, Bool, List, eqb, leb, ℤ, Float, length}
 use Rattle.paper.specs.Choice.{◌and◌, pick}
 use Rattle.faces.specs.Slots.{face_of}
 use Rattle.faces.specs.Answer.{face_number, Spilling, spill_of}
-use Rattle.faces.specs.declared.FaceAnswer.{FaceAnswer}
-use Rattle.faces.specs.declared.FaceAnswer.TheVariants as FaceAnswers
-use Rattle.vector.specs.declared.Number.{Number}
-use Rattle.vector.specs.declared.Number.TheVariants as Numbers
 use Rattle.capi_vectors.specs.Single.{Single, single, into_one, laid_over}
-
--- each answer of a crate below, in its place: what it holds, or the refusal's number and the place as it was
-abbrev pub number_put : Number → List Float → Single Float
-number_put (Numbers.Value x) ys = single 0 (x ∷ [])
-number_put (Numbers.Refused num) ys = single num ys
-
-abbrev pub face_put : FaceAnswer → List ℤ → Single ℤ
-face_put (FaceAnswers.Face f) ys = single 0 (f ∷ [])
-face_put (FaceAnswers.Refused num) ys = single num ys
 
 -- 1 to 1,024 entries
 unfoldable pub dims_ok : ℕ → Bool

@@ -1,6 +1,8 @@
 -- Answers in lent places: one value in a slice of length 1, and a list over the first places of a slice. Definitions only.
-use Rattle.std.specs.Prelude.{ℕ, List, [], ◌∷◌, ◌++◌, eqb, length, take, drop}
+use Rattle.std.specs.Prelude.{ℕ, List, [], ◌∷◌, ◌++◌, Result, Ok, Err, eqb, length, take, drop}
 use Rattle.paper.specs.Choice.{pick}
+use Rattle.paper.specs.Refusals.{number_of}
+use Rattle.paper.specs.declared.Refusal.{Refusal}
 
 -- the answer's number, and the lent place
 pub record Single (A : Type 0) : Type 0 where
@@ -9,6 +11,11 @@ pub record Single (A : Type 0) : Type 0 where
 
 abbrev pub single : {A : Type 0} → ℕ → List A → Single A
 single num ys = record { answer = num; out = ys }
+
+-- an answer in its place: the value, or the refusal's number and the place as it was
+abbrev pub put : {A : Type 0} → Result A Refusal → List A → Single A
+put (Ok x) ys = single 0 (x ∷ [])
+put (Err r) ys = single (number_of r) ys
 
 -- the value x in the place unless `num` refuses, which keeps the place
 abbrev pub kept : {A : Type 0} → ℕ → A → List A → Single A

@@ -1,57 +1,36 @@
 // What the calls share: the test of a projection's length, and writing an answer into its place.
 ghost use Rattle.std.specs.Prelude.{◌≡◌, ◌≤◌, length};
-ghost use Rattle.capi_vectors.specs.Single.{single, laid_over};
-ghost use Rattle.capi_vectors.specs.Projections.{dims_ok, number_put, face_put};
+ghost use Rattle.capi_vectors.specs.Single.{single, put, laid_over};
+ghost use Rattle.capi_vectors.specs.Projections.{dims_ok};
 
-use faces::FaceAnswer;
-use vector::Number;
+use paper::Refusal;
 
-// A number into its place; a refusal keeps it. The answer is the refusal.
-pub fn put_number(answer: Number, out: &mut [f32]) -> u32
+// One value into its place; a refusal keeps it. The answer is the refusal's number.
+pub fn put_one<T: Copy>(answer: Result<T, Refusal>, out: &mut [T]) -> u32
     requires { length out.old ≡ 1 }
-    ensures { single result out.new ≡ number_put answer out.old }
+    ensures { single result out.new ≡ put answer out.old }
 {
     match answer {
-        Number::Value(x) => {
+        Ok(x) => {
             out[0] = x;
             0
         }
-        Number::Refused(num) => num,
-    }
-}
-
-// A face into its place; a refusal keeps it.
-pub fn put_face(answer: FaceAnswer, out: &mut [i32]) -> u32
-    requires { length out.old ≡ 1 }
-    ensures { single result out.new ≡ face_put answer out.old }
-{
-    match answer {
-        FaceAnswer::Face(f) => {
-            out[0] = f;
-            0
-        }
-        FaceAnswer::Refused(num) => num,
+        Err(refusal) => refusal.into(),
     }
 }
 
 // Whether a projection has 1 to 1,024 entries.
+#[tactic(auto, unfolding(crate::specs::Projections::dims_ok))]
 pub fn dims_ok(d: usize) -> bool
     ensures { result ≡ dims_ok d }
 {
-    if d < 1 {
-        return false;
-    }
-    d <= 1024
+    1 <= d && d <= 1024
 }
 
 // The first n of `from` over the first n of `to`.
-pub fn copy_faces(from: &[i32], n: usize, to: &mut [i32])
+pub fn copy_front<T: Copy>(from: &[T], n: usize, to: &mut [T])
     requires { (n ≤ length from.now) × (n ≤ length to.old) }
     ensures { to.new ≡ laid_over n from.now to.old }
 {
-    let mut i = 0;
-    while i < n {
-        to[i] = from[i];
-        i += 1;
-    }
+    to[..n].copy_from_slice(&from[..n]);
 }

@@ -11,7 +11,9 @@ ghost use Rattle.ortho.specs.Ortho.{written, orthonormalized};
 ghost use Rattle.capi_vectors.specs.Single.{single, into_one};
 ghost use Rattle.capi_vectors.specs.Projections.{face_into, spilt, spill_into};
 
-mod inner;
+use paper::Refusal;
+
+pub mod inner;
 
 // ---- vectors and bases
 
@@ -21,10 +23,10 @@ pub extern "C" fn bbq_dot_product(a: &[f32], b: &[f32], out: &mut [f32]) -> u32
     ensures { single result out.new ≡ into_one (refuse 2 (eqb (length a.now) (length b.now)) 0) (dot_of a.now b.now) out.old }
 {
     if out.len() != 1 {
-        return paper::WRONG_LENGTH;
+        return Refusal::WrongLength.into();
     }
     let answer = vector::dot_product(a, b);
-    inner::put_number(answer, out)
+    inner::put_one(answer, out)
 }
 
 // The distance in out[0] (vector::distance). Refuses as the dot product does.
@@ -33,10 +35,10 @@ pub extern "C" fn bbq_distance(a: &[f32], b: &[f32], out: &mut [f32]) -> u32
     ensures { single result out.new ≡ into_one (refuse 2 (eqb (length a.now) (length b.now)) 0) (root (squares_of a.now b.now)) out.old }
 {
     if out.len() != 1 {
-        return paper::WRONG_LENGTH;
+        return Refusal::WrongLength.into();
     }
     let answer = vector::distance(a, b);
-    inner::put_number(answer, out)
+    inner::put_one(answer, out)
 }
 
 // Divides each component by the norm (vector::normalize). Refuses 5, then 6; the vector is then as it was.
@@ -44,7 +46,7 @@ pub extern "C" fn bbq_distance(a: &[f32], b: &[f32], out: &mut [f32]) -> u32
 pub extern "C" fn bbq_normalize(v: &mut [f32]) -> u32
     ensures { normal result v.new ≡ normal (norm_number v.old) (normalized v.old) }
 {
-    vector::normalize(v)
+    paper::code(vector::normalize(v))
 }
 
 // Writes a basis, orthonormalised, to `out` (ortho::orthonormalize). Refuses 1, 2, 5, which leave `out` as it was, and 6, which leaves it all +0.0.
@@ -52,7 +54,7 @@ pub extern "C" fn bbq_normalize(v: &mut [f32]) -> u32
 pub extern "C" fn bbq_orthonormalize(basis: &[f32], out: &mut [f32], d: usize, rounds: usize) -> u32
     ensures { written result out.new ≡ orthonormalized d rounds basis.now out.old }
 {
-    ortho::orthonormalize(basis, out, d, rounds)
+    paper::code(ortho::orthonormalize(basis, out, d, rounds))
 }
 
 // ---- the faces of a projection
@@ -64,13 +66,13 @@ pub extern "C" fn bbq_find_face_idx(projection: &[f32], out: &mut [i32]) -> u32
     ensures { single result out.new ≡ face_into projection.now out.old }
 {
     if !inner::dims_ok(projection.len()) {
-        return paper::WRONG_GEOMETRY;
+        return Refusal::WrongGeometry.into();
     }
     if out.len() != 1 {
-        return paper::WRONG_LENGTH;
+        return Refusal::WrongLength.into();
     }
     let answer = faces::find_face_idx(projection);
-    inner::put_face(answer, out)
+    inner::put_one(answer, out)
 }
 
 // The faces that spilling picks, in the first min(spill, d - 1) + 1 places of `out` (faces::spill_faces); each picked entry of the projection becomes +0.0.
@@ -80,16 +82,16 @@ pub extern "C" fn bbq_spill_faces(projection: &mut [f32], spill: usize, out: &mu
     ensures { spilt result projection.new out.new ≡ spill_into spill projection.old out.old }
 {
     if !inner::dims_ok(projection.len()) {
-        return paper::WRONG_GEOMETRY;
+        return Refusal::WrongGeometry.into();
     }
     if out.len() != projection.len() {
-        return paper::WRONG_LENGTH;
+        return Refusal::WrongLength.into();
     }
-    let spilled = faces::spill_faces(projection, spill);
-    if spilled.refusal != 0 {
-        return spilled.refusal;
+    match faces::spill_faces(projection, spill) {
+        Ok(spilled) => {
+            inner::copy_front(&spilled.faces, spilled.count, out);
+            0
+        }
+        Err(refusal) => refusal.into(),
     }
-    let count = spilled.count;
-    inner::copy_faces(&spilled.faces, count, out);
-    0
 }

@@ -5,87 +5,59 @@
 // A line that starts with another letter ends the run. A refusal is written as `refused` and its number.
 #![tactic(auto)]
 
-use recorded::inner::{
-    bytes, floats, least, letter, number, show_bytes, show_floats, show_number, show_refusal, text,
-};
+use recorded::inner::{byte, fill, float, letter, number, show_all, show_floats, show_refusal};
+use std::io;
+use std::io::Read;
 
-// Reads the bytes, copies the components out into them, and shows the bytes before and after.
-fn copy_out(mode: u64, v: &[f32], array: &mut [u8]) {
-    bytes(array);
-    text(b"copy");
-    show_number(mode);
-    show_number(v.len() as u64);
-    show_floats(v);
-    show_number(array.len() as u64);
-    show_bytes(array);
-    let refusal = quantization::marshal(mode as usize, v, array);
-    show_bytes(array);
-    show_refusal(refusal);
-}
-
-// Reads the components.
-fn copy_components(mode: u64, v: &mut [f32]) {
-    floats(v);
-    let mut array = [0u8; 72];
-    let len = least(number() as usize, 72);
-    copy_out(mode, v, &mut array[0..len]);
-}
-
-// A line `c`.
-fn copy_line() {
-    let mode = number();
+// A line `c`: the components are copied out into the bytes, which are shown before and after.
+fn copy_line(rt: &impl Print, input: &mut impl Read) -> io::Result<()> {
+    let mode = number(input)? as usize;
     let mut v = [0.0f32; 16];
-    let n = least(number() as usize, 16);
-    copy_components(mode, &mut v[0..n]);
+    let n = v.len().min(number(input)? as usize);
+    let v = &mut v[..n];
+    fill(input, v, float)?;
+    let mut array = [0u8; 72];
+    let len = array.len().min(number(input)? as usize);
+    let array = &mut array[..len];
+    fill(input, array, byte)?;
+    print!(rt; "copy {mode} {n}")?;
+    show_floats(rt, v)?;
+    print!(rt; " {len}")?;
+    show_all(rt, array, 2)?;
+    let refusal = quantization::marshal(mode, v, array);
+    show_all(rt, array, 2)?;
+    show_refusal(rt, refusal)
 }
 
 // How many components that many bytes hold.
-fn components_in(len: usize, mode: u64) -> usize {
+fn components_in(len: usize, mode: usize) -> usize {
     if mode == 0 { len / 4 } else { len / 2 }
 }
 
-// Reads the bytes, reads them in, and shows them and the components.
-fn read_in(mode: u64, array: &mut [u8]) {
-    bytes(array);
-    text(b"read");
-    show_number(mode);
-    show_number(array.len() as u64);
-    show_bytes(array);
-    let mut v = [0.0f32; 16];
-    let refusal = quantization::unmarshal(mode as usize, array, &mut v);
-    let n = least(components_in(array.len(), mode), 16);
-    show_floats(&v[0..n]);
-    show_refusal(refusal);
-}
-
-// A line `b`.
-fn read_line() {
-    let mode = number();
+// A line `b`: the bytes are read in, and shown with the components.
+fn read_line(rt: &impl Print, input: &mut impl Read) -> io::Result<()> {
+    let mode = number(input)? as usize;
     let mut array = [0u8; 72];
-    let len = least(number() as usize, 72);
-    read_in(mode, &mut array[0..len]);
+    let len = array.len().min(number(input)? as usize);
+    let array = &mut array[..len];
+    fill(input, array, byte)?;
+    print!(rt; "read {mode} {len}")?;
+    show_all(rt, array, 2)?;
+    let mut v = [0.0f32; 16];
+    let refusal = quantization::unmarshal(mode, array, &mut v);
+    let n = v.len().min(components_in(len, mode));
+    show_floats(rt, &v[..n])?;
+    show_refusal(rt, refusal)
 }
 
-// One line. False for a letter that is none of the two.
-fn line() -> bool {
-    let l = letter();
-    if l == b'c' {
-        copy_line();
-        return true;
-    }
-    if l == b'b' {
-        read_line();
-        return true;
-    }
-    false
-}
-
-fn main() {
-    let mut turns = u64::MAX;
-    while turns > 0 {
-        turns -= 1;
-        if !line() {
-            return;
+fn main(rt: HostRuntime) -> io::Result<()> {
+    let mut input = rt.reader();
+    for _ in 0..u64::MAX {
+        match letter(&mut input)? {
+            Some(b'c') => copy_line(&rt, &mut input)?,
+            Some(b'b') => read_line(&rt, &mut input)?,
+            _ => break,
         }
     }
+    Ok(())
 }

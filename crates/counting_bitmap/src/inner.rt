@@ -1,6 +1,6 @@
 // The work on layers, for the crates above: n layers of w words each, one after the other, and a set of w words.
-ghost use Rattle.std.specs.Prelude.{◌≡◌, ◌++◌, ◌*◌, ◌-◌, ◌≤◌, length};
-ghost use Rattle.counting_bitmap.specs.Layers.{Carried, merged, fallen, counts_of, empty};
+ghost use Rattle.std.specs.Prelude.{◌≡◌, ◌++◌, ◌+◌, ◌*◌, ◌-◌, ◌≤◌, length};
+ghost use Rattle.counting_bitmap.specs.Layers.{Carried, layer, merged, fallen, counts_of, empty};
 ghost use Rattle.counting_bitmap.specs.TopLayer.{top_of, part_of};
 ghost use Rattle.counting_bitmap.specs.Answers.{layers_ok};
 
@@ -19,14 +19,12 @@ fn carry(layer: &mut [u64], cur: &mut [u64]) -> bool
     ensures { Carried layer.old cur.old result layer.new cur.new }
 {
     let mut any = 0;
-    let mut i = 0;
-    while i < layer.len() {
+    for i in 0..layer.len() {
         let l = layer[i];
         let c = cur[i];
         layer[i] = l | c;
         cur[i] = l & c;
-        any = any | l & c;
-        i += 1;
+        any |= l & c;
     }
     any != 0
 }
@@ -37,15 +35,21 @@ pub fn merge(layers: &mut [u64], n: usize, w: usize, cur: &mut [u64])
     requires { (length layers.old ≡ n * w) × (length cur.old ≡ w) }
     ensures { (layers.new ≡ merged n w layers.old cur.old) × (cur.new ≡ fallen n w layers.old cur.old) }
 {
-    let mut i = 0;
-    let mut at = 0;
-    while i < n {
+    for i in 0..n {
+        let at = i * w;
         if !carry(&mut layers[at..at + w], cur) {
             return;
         }
-        at += w;
-        i += 1;
     }
+}
+
+// Layer i.
+fn layer(layers: &[u64], w: usize, i: usize) -> &[u64]
+    requires { (i + 1) * w ≤ length layers.now }
+    ensures { result.now ≡ layer w layers.now i }
+{
+    let at = i * w;
+    &layers[at..at + w]
 }
 
 // The number of ids of each layer, in the first n places.
@@ -54,12 +58,8 @@ pub fn cardinalities(layers: &[u64], n: usize, w: usize) -> [u32; 32]
     ensures { result ≡ counts_of n w layers.now ++ empty (32 - n) }
 {
     let mut counts = [0u32; 32];
-    let mut i = 0;
-    let mut at = 0;
-    while i < n {
-        counts[i] = bitmaps::inner::count(&layers[at..at + w]);
-        at += w;
-        i += 1;
+    for i in 0..n {
+        counts[i] = bitmaps::inner::count(layer(layers, w, i));
     }
     counts
 }
@@ -69,15 +69,10 @@ pub fn top_layer(layers: &[u64], n: usize, w: usize, search_k: usize) -> Option<
     requires { (length layers.now ≡ n * w) × (w ≤ 1024) }
     ensures { result ≡ top_of n w layers.now search_k }
 {
-    let mut i = n;
-    let mut at = layers.len();
-    while 0 < i {
-        let lower = at - w;
-        if search_k <= bitmaps::inner::count(&layers[lower..at]) as usize {
-            return Some(i - 1);
+    for i in (0..n).rev() {
+        if search_k <= bitmaps::inner::count(layer(layers, w, i)) as usize {
+            return Some(i);
         }
-        i -= 1;
-        at = lower;
     }
     None
 }
@@ -88,11 +83,7 @@ pub fn top_part(layers: &[u64], n: usize, w: usize, search_k: usize) -> &[u64]
     ensures { result.now ≡ part_of w layers.now (top_of n w layers.now search_k) }
 {
     match top_layer(layers, n, w, search_k) {
-        Some(i) => {
-            let a = i * w;
-            let e = a + w;
-            &layers[a..e]
-        }
-        None => &layers[0..0],
+        Some(i) => layer(layers, w, i),
+        None => &[],
     }
 }

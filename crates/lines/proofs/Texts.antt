@@ -12,7 +12,8 @@ use lib.Ieee.{Float, nan}
 use borrow.Author.Tests.{eq-eqb, ne_eqb, lt-ltb, le-ltb}
 use Rattle.lines.specs.declared.Told.{Told}
 use Rattle.lines.specs.declared.Told.TheVariants.{Refused, Geometry, Basis, Added, Found}
-use Rattle.lines.specs.Lines.{Put, told, trimmed, ten_digits, decimal, glyph, hexadecimal, entry, listing}
+use Rattle.paper.specs.Refusals.{number_of}
+use Rattle.lines.specs.Lines.{Put, refused_line, told, trimmed, ten_digits, decimal, glyph, hexadecimal, entry, listing}
 
 -- ---- stores one after another
 
@@ -116,9 +117,13 @@ put_none ids scores {l} {at} = record { next = sym (add-zero at); stored = refl 
 
 -- ---- how long a line is
 
+pub refused_short : (n : ℕ) → length (refused_line n) ≤ 64
+unfolding refused_line
+refused_short n = simp length-append (omega (arith, decimal_length n))
+
 pub told_short : (t : Told) → length (told t) ≤ 64
 unfolding told
-told_short (Refused n) = simp length-append (omega (arith, decimal_length n))
+told_short (Refused r) = refused_short (number_of r)
 told_short (Geometry d n cap mode) = simp length-append (omega (arith, decimal_length d, decimal_length n, decimal_length cap, decimal_length mode))
 told_short (Basis b) = simp length-append (omega (arith, decimal_length b))
 told_short (Added id) = simp length-append (omega (arith, decimal_length id))

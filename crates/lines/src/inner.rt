@@ -9,29 +9,21 @@ pub fn put_text(out: &mut [u8], at: usize, text: &[u8]) -> usize
     requires { at + length text.now ≤ length out.old }
     ensures { Put out.old out.new at result text.now }
 {
-    let mut i = 0;
-    while i < text.len() {
-        out[at + i] = text[i];
-        i += 1;
-    }
-    at + i
+    let end = at + text.len();
+    out[at..end].copy_from_slice(text);
+    end
 }
 
 // The text without its leading zeros, of which the last byte stays.
 fn trimmed_part(text: &[u8]) -> &[u8]
     ensures { result.now ≡ trimmed text.now }
 {
-    let mut i = 0;
-    while i < text.len() {
-        if text.len() - i == 1 {
+    for (i, digit) in text.iter().enumerate() {
+        if text.len() - i == 1 || *digit != b'0' {
             return &text[i..];
         }
-        if text[i] != 48 {
-            return &text[i..];
-        }
-        i += 1;
     }
-    &text[i..]
+    text
 }
 
 // A number in decimal: all ten digits that 32 bits can have, then the part without leading zeros.
@@ -60,9 +52,9 @@ fn glyph(x: u32) -> u8
     ensures { result ≡ glyph x }
 {
     if x < 10 {
-        (48 + x) as u8
+        b'0' + x as u8
     } else {
-        (55 + x) as u8
+        b'A' + (x - 10) as u8
     }
 }
 
@@ -108,7 +100,7 @@ pub fn put_told(out: &mut [u8], at: usize, t: Told) -> usize
     ensures { Put out.old out.new at result (told t) }
 {
     match t {
-        Told::Refused(n) => put_line(out, at, b"refused ", n),
+        Told::Refused(refusal) => put_line(out, at, b"refused ", refusal.into()),
         Told::Geometry(d, n, cap, mode) => {
             let p = put_number(out, at, b"geometry ", d);
             let q = put_number(out, p, b" ", n);
@@ -136,21 +128,13 @@ fn put_entry(out: &mut [u8], at: usize, id: u32, score: f32) -> usize
 }
 
 // The list of a search, a line for each of its first n entries.
-pub fn put_listing<'a>(
-    out: &mut [u8],
-    at: usize,
-    ids: &'a [u32],
-    scores: &'a [f32],
-    n: usize,
-) -> usize
+pub fn put_listing(out: &mut [u8], at: usize, ids: &[u32], scores: &[f32], n: usize) -> usize
     requires { (at + n * 20 ≤ length out.old) × (n ≤ length ids.now) × (n ≤ length scores.now) }
     ensures { Put out.old out.new at result (listing n ids.now scores.now) }
 {
-    let mut i = 0;
     let mut p = at;
-    while i < n {
+    for i in 0..n {
         p = put_entry(out, p, ids[i], scores[i]);
-        i += 1;
     }
     p
 }

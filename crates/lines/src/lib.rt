@@ -3,12 +3,14 @@
 
 ghost use Rattle.lines.specs.Laws.{Laws};
 
+use paper::Refusal;
+
 pub mod inner;
 
 // What one record comes to, but for a search's list: `refused N`, `geometry d n C mode`, `basis b`, `added id`, `found L checked c`.
-#[derive(Clone, Copy)]
+#[derive(Clone, Copy, Debug, PartialEq, Eq)]
 pub enum Told {
-    Refused(u32),
+    Refused(Refusal),
     Geometry(u32, u32, u32, u32),
     Basis(u32),
     Added(u32),

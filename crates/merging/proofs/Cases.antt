@@ -7,6 +7,9 @@ use native.Mathlib.Omega.{arith}
 use native.Mathlib.Nat.{mul-le-mul}
 use lib.ListN.{length}
 use borrow.Author.Tests.{ne_eqb}
+use Rattle.paper.specs.Refusals.{number_of}
+use Rattle.paper.specs.declared.Refusal.{Refusal}
+use Rattle.paper.proofs.Answering.{number_low}
 use Rattle.paper.specs.Geometry.{Geo, geo_ok, comp_size}
 use Rattle.paper.proofs.GeometryFacts.{comp_le}
 use Rattle.index_memory.specs.Memory.{Ix, ix_of, own_ok_ix, own_refusal, done, Sized}
@@ -17,16 +20,18 @@ use Rattle.merging.specs.Merging.{copied, merged_ix, merge_refusal, merge_of, Co
 abbrev own : Geo → Ix → ℕ
 own g ix = own_refusal g.d g.n g.cap g.mode (length ix.faces) (length ix.marks) (length ix.vecs)
 
-module _ (g : Geo) (a b : Ix) (r : ℕ) (e : r ≡ own g a) where
-  pub merge_first : (r ≡ 0 → ⊥) → done r a ≡ merge_of g a b
+module _ (g : Geo) (a b : Ix) where
+  pub merge_first : (r : Refusal) → number_of r ≡ own g a → done (number_of r) a ≡ merge_of g a b
   unfolding merge_of merge_refusal
-  merge_first h =
-      let t : r ≡ merge_refusal g a b = e ∙ own_first g.d g.n g.cap g.mode _ _ _ _ _ (λ z. h (e ∙ z)) in
-      rw (← t, ne_eqb r 0 h)
+  merge_first r e =
+      let low = number_low r in
+      let some : number_of r ≡ 0 → ⊥ = λ z. omega arith in
+      let t : number_of r ≡ merge_refusal g a b = e ∙ own_first g.d g.n g.cap g.mode _ _ _ _ _ (λ z. some (e ∙ z)) in
+      rw (← t, ne_eqb (number_of r) 0 some)
 
-  module _ (z : r ≡ 0) where
+  module _ (z : 0 ≡ own g a) where
     good : (geo_ok g.d g.n g.cap g.mode ≡ true) × (own_ok_ix g a ≡ true)
-    good = own_tests g.d g.n g.cap g.mode _ _ _ (sym e ∙ z)
+    good = own_tests g.d g.n g.cap g.mode _ _ _ (sym z)
 
     pub merge_second : own_ok_ix g b ≡ false → done 2 a ≡ merge_of g a b
     unfolding merge_of merge_refusal

@@ -1,15 +1,14 @@
 -- One turn of each loop of a merge, on plain values. Assumes nothing.
 use Prim.Native.Nat.{ℕ, zero, suc, ◌+◌, ◌*◌, ◌≤◌, ◌<◌}
 use mathlib.Core.Path.{◌≡◌, ◌∙◌, sym, ap, refl, subst}
-use mathlib.Core.List.{List, [], ◌∷◌, ◌++◌}
+use mathlib.Core.List.{List}
 use native.Mathlib.Omega.{arith}
 use native.Mathlib.Numerals.{add-one}
 use native.Mathlib.Decide.{ℕ_discrete}
 use lib.Bits.{bit_and}
 use lib.Count.{ones}
-use lib.ListN.{length, get_or, set, take, drop, length-drop}
-use lib.Seq.{sets, take-suc, get_or-drop, length-take-le}
-use Rattle.quantization.proofs.Sets.{sets_append}
+use lib.ListN.{length, get_or, take, drop}
+use lib.Seq.{sets}
 use Rattle.bitmaps.specs.Words.{has, shared, size}
 use Rattle.bitmaps.proofs.Zip.{by_word_length}
 use Rattle.bitmaps.proofs.Digits.{by_word_at}
@@ -24,17 +23,6 @@ pub share_drop : (a b : List ℕ) (i : ℕ) → length a ≡ length b → i < le
 share_drop a b i e h =
     let l : i < length (shared a b) = subst (λ (k : ℕ). i < k) (sym (by_word_length bit_and a b)) h in
     size_drop (shared a b) i l ∙ ap (λ (x : ℕ). ones x + size (drop (i + 1) (shared a b))) (by_word_at bit_and refl a b e i)
-
--- ---- one slot
-
-pub copy_byte : (l from : List ℕ) (at j : ℕ) (now : List ℕ) → at + j < length from → now ≡ sets l at (take j (drop at from))
-    → set now (at + j) (get_or from (at + j) 0) ≡ sets l at (take (j + 1) (drop at from))
-copy_byte l from at j now h e =
-    let hd : j < length (drop at from) = simp length-drop (omega arith) in
-    let le : j ≤ length (drop at from) = omega arith in
-    let t : take (j + 1) (drop at from) ≡ take j (drop at from) ++ (get_or from (at + j) 0 ∷ []) =
-    rw (add-one, take-suc (drop at from) j 0 hd, get_or-drop at from j 0) refl in
-    rw (e, t, sets_append l (take j (drop at from)) (get_or from (at + j) 0 ∷ []) at, length-take-le j (drop at from) le) refl
 
 -- ---- the marked slots
 

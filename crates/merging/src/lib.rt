@@ -3,25 +3,23 @@
 
 ghost use Rattle.std.specs.Prelude.{◌≡◌, ◌+◌, ◌*◌, ◌≤◌, length, take, drop};
 ghost use Rattle.std.proofs.lemmas.List.Edits.{sets};
-ghost use Rattle.paper.specs.Geometry.{geo};
+ghost use Rattle.paper.specs.Refusals.{code_of};
 ghost use Rattle.index_memory.specs.Memory.{ix_of, done};
 ghost use Rattle.bitmaps.specs.Words.{shared, is_empty};
 ghost use Rattle.merging.specs.Merging.{copied, merge_of, CopyArgs};
 ghost use Rattle.merging.specs.Laws.{Laws};
 
-use bitmaps::Found;
+use paper::{Geometry, Refusal};
 
 // Whether no id is in both sets, a word of each at a time.
 fn share_nothing(a: &[u64], b: &[u64]) -> bool
     requires { length a.now ≡ length b.now }
     ensures { result ≡ is_empty (shared a.now b.now) }
 {
-    let mut i = 0;
-    while i < a.len() {
+    for i in 0..a.len() {
         if a[i] & b[i] != 0 {
             return false;
         }
-        i += 1;
     }
     true
 }
@@ -31,11 +29,7 @@ fn copy_slot(vectors: &mut [u8], from: &[u8], at: usize, size: usize)
     requires { (at + size ≤ length vectors.old) × (length from.now ≡ length vectors.old) }
     ensures { vectors.new ≡ sets vectors.old at (take size (drop at from.now)) }
 {
-    let mut j = 0;
-    while j < size {
-        vectors[at + j] = from[at + j];
-        j += 1;
-    }
+    vectors[at..at + size].copy_from_slice(&from[at..at + size]);
 }
 
 // Copies the slots of the marked ids, and no others.
@@ -44,16 +38,9 @@ fn copy_present(vectors: &mut [u8], from: &[u8], marks: &[u64], size: usize)
     ensures { vectors.new ≡ copied size (length marks.now * 64) marks.now from.now vectors.old }
 {
     let mut at = 0;
-    loop {
-        match bitmaps::inner::next(marks, at) {
-            Found::At(i) => {
-                copy_slot(vectors, from, i * size, size);
-                at = i + 1;
-            }
-            Found::Nothing => {
-                return;
-            }
-        }
+    while let Some(i) = bitmaps::inner::next(marks, at) {
+        copy_slot(vectors, from, i * size, size);
+        at = i + 1;
     }
 }
 
@@ -66,36 +53,22 @@ pub fn merge(
     faces2: &[u64],
     marks2: &[u64],
     vectors2: &[u8],
-    d: usize,
-    n: usize,
-    cap: usize,
-    mode: usize,
-) -> u32
-    ensures { done result (ix_of faces.new marks.new vectors.new) ≡ merge_of (geo d n cap mode) (ix_of faces.old marks.old vectors.old) (ix_of faces2.now marks2.now vectors2.now) }
+    g: Geometry,
+) -> Result<(), Refusal>
+    ensures { done (code_of result) (ix_of faces.new marks.new vectors.new) ≡ merge_of g (ix_of faces.old marks.old vectors.old) (ix_of faces2.now marks2.now vectors2.now) }
 {
-    let r = index_memory::own_refusal(d, n, cap, mode, faces.len(), marks.len(), vectors.len());
-    if r != 0 {
-        return r;
-    }
-    if !index_memory::inner::own_lengths_ok(
-        d,
-        n,
-        cap,
-        mode,
-        faces2.len(),
-        marks2.len(),
-        vectors2.len(),
-    ) {
-        return paper::WRONG_LENGTH;
+    index_memory::check_own(g, faces.len(), marks.len(), vectors.len())?;
+    if !index_memory::inner::own_lengths_ok(g, faces2.len(), marks2.len(), vectors2.len()) {
+        return Err(Refusal::WrongLength);
     }
     if !share_nothing(marks, marks2) {
-        return paper::SHARED_ID;
+        return Err(Refusal::SharedId);
     }
-    let size = paper::component_size(mode) * d;
+    let size = paper::component_size(g.mode) * g.d;
     copy_present(vectors, vectors2, marks2, size);
     bitmaps::inner::or(faces, faces2);
     bitmaps::inner::or(marks, marks2);
-    0
+    Ok(())
 }
 
 // The laws of this crate, claimed: specs/Laws.antt says each of them.

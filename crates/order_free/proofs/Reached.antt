@@ -77,5 +77,5 @@ module _ (g : Geo) (bs : List Float) where
       (ap (λ (d : Done). d.answer) (e ∙ m) ∙ t.1.0, ap (λ (d : Done). d.ix) (e ∙ m) ∙ t.0 ∙ sym f)
 
 -- the same lengths again
-pub fill_again : {d n cap mode lf lm lv lw lf' lm' lv' lw' : ℕ} → FillArgs d n cap mode lf lm lv lw → lf' ≡ lf → lm' ≡ lm → lv' ≡ lv → lw' ≡ lw → FillArgs d n cap mode lf' lm' lv' lw'
+pub fill_again : {g : Geo} {lf lm lv lw lf' lm' lv' lw' : ℕ} → FillArgs g lf lm lv lw → lf' ≡ lf → lm' ≡ lm → lv' ≡ lv → lw' ≡ lw → FillArgs g lf' lm' lv' lw'
 fill_again f p q r s = rw (p, q, r, s) f

@@ -93,12 +93,12 @@ filled g bs xs = run g bs (calls g xs) (empty_ix g)
 
 -- what filling an index asks: a good geometry, the lengths of the index, d floats of work memory. A wrong length of bases or vector, or an id
 -- too high, is an addition's refusal.
-pub record FillArgs (d n cap mode lf lm lv lw : ℕ) : Type 0 where
-  pub good : geo_ok d n cap mode ≡ true
-  pub own : own_ok d n cap mode lf lm lv ≡ true
-  pub work : lw ≡ d
+pub record FillArgs (g : Geo) (lf lm lv lw : ℕ) : Type 0 where
+  pub good : geo_ok g.d g.n g.cap g.mode ≡ true
+  pub own : own_ok g.d g.n g.cap g.mode lf lm lv ≡ true
+  pub work : lw ≡ g.d
 
-pub record PairArgs (d n cap mode i j lf lm lv lf2 lm2 lv2 lw : ℕ) : Type 0 where
-  pub first : FillArgs d n cap mode lf lm lv lw
-  pub second : FillArgs d n cap mode lf2 lm2 lv2 lw
+pub record PairArgs (g : Geo) (i j lf lm lv lf2 lm2 lv2 lw : ℕ) : Type 0 where
+  pub first : FillArgs g lf lm lv lw
+  pub second : FillArgs g lf2 lm2 lv2 lw
   pub apart : i ≡ j → ⊥

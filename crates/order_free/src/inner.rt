@@ -1,8 +1,10 @@
 // Indexes really made in two ways, with the promise that their memories end equal.
 ghost use Rattle.std.specs.Prelude.{◌≡◌, [], ◌∷◌, length};
-ghost use Rattle.paper.specs.Geometry.{geo};
+ghost use Rattle.paper.specs.Refusals.{code_of};
 ghost use Rattle.index_memory.specs.Memory.{ix_of};
 ghost use Rattle.order_free.specs.Order.{addition, filled, FillArgs, PairArgs};
+
+use paper::{Geometry, Refusal};
 
 // Makes the index empty and adds one vector.
 pub fn fill_one(
@@ -12,17 +14,14 @@ pub fn fill_one(
     vectors: &mut [u8],
     work: &mut [f32],
     v: &[f32],
-    d: usize,
-    n: usize,
-    cap: usize,
-    mode: usize,
+    g: Geometry,
     i: usize,
 )
-    requires { FillArgs d n cap mode (length faces.old) (length marks.old) (length vectors.old) (length work.old) }
-    ensures { ix_of faces.new marks.new vectors.new ≡ filled (geo d n cap mode) bases.now (addition i v.now ∷ []) }
+    requires { FillArgs g (length faces.old) (length marks.old) (length vectors.old) (length work.old) }
+    ensures { ix_of faces.new marks.new vectors.new ≡ filled g bases.now (addition i v.now ∷ []) }
 {
-    index_memory::new_vector_store(faces, marks, vectors, d, n, cap, mode);
-    adding::add_vector(bases, faces, marks, vectors, work, v, d, n, cap, mode, i);
+    let _ = index_memory::new_vector_store(faces, marks, vectors, g);
+    let _ = adding::add_vector(bases, faces, marks, vectors, work, v, g, i);
 }
 
 // Makes the index empty and adds two vectors, v before u.
@@ -34,18 +33,15 @@ pub fn fill_two(
     work: &mut [f32],
     v: &[f32],
     u: &[f32],
-    d: usize,
-    n: usize,
-    cap: usize,
-    mode: usize,
+    g: Geometry,
     i: usize,
     j: usize,
 )
-    requires { FillArgs d n cap mode (length faces.old) (length marks.old) (length vectors.old) (length work.old) }
-    ensures { ix_of faces.new marks.new vectors.new ≡ filled (geo d n cap mode) bases.now (addition i v.now ∷ addition j u.now ∷ []) }
+    requires { FillArgs g (length faces.old) (length marks.old) (length vectors.old) (length work.old) }
+    ensures { ix_of faces.new marks.new vectors.new ≡ filled g bases.now (addition i v.now ∷ addition j u.now ∷ []) }
 {
-    fill_one(bases, faces, marks, vectors, work, v, d, n, cap, mode, i);
-    adding::add_vector(bases, faces, marks, vectors, work, u, d, n, cap, mode, j);
+    fill_one(bases, faces, marks, vectors, work, v, g, i);
+    let _ = adding::add_vector(bases, faces, marks, vectors, work, u, g, j);
 }
 
 // Two empty indexes, and two vectors added to each, in two orders: the memories end equal.
@@ -60,22 +56,15 @@ pub fn two_orders(
     work: &mut [f32],
     v: &[f32],
     u: &[f32],
-    d: usize,
-    n: usize,
-    cap: usize,
-    mode: usize,
+    g: Geometry,
     i: usize,
     j: usize,
 )
-    requires { PairArgs d n cap mode i j (length faces.old) (length marks.old) (length vectors.old) (length faces2.old) (length marks2.old) (length vectors2.old) (length work.old) }
+    requires { PairArgs g i j (length faces.old) (length marks.old) (length vectors.old) (length faces2.old) (length marks2.old) (length vectors2.old) (length work.old) }
     ensures { ix_of faces.new marks.new vectors.new ≡ ix_of faces2.new marks2.new vectors2.new }
 {
-    fill_two(
-        bases, faces, marks, vectors, work, v, u, d, n, cap, mode, i, j,
-    );
-    fill_two(
-        bases, faces2, marks2, vectors2, work, u, v, d, n, cap, mode, j, i,
-    );
+    fill_two(bases, faces, marks, vectors, work, v, u, g, i, j);
+    fill_two(bases, faces2, marks2, vectors2, work, u, v, g, j, i);
 }
 
 // Two empty indexes, one vector added to each, and the second merged into the first; then the second made empty again, and both vectors added to it,
@@ -91,23 +80,16 @@ pub fn two_deals(
     work: &mut [f32],
     v: &[f32],
     u: &[f32],
-    d: usize,
-    n: usize,
-    cap: usize,
-    mode: usize,
+    g: Geometry,
     i: usize,
     j: usize,
-) -> u32
-    requires { PairArgs d n cap mode i j (length faces.old) (length marks.old) (length vectors.old) (length faces2.old) (length marks2.old) (length vectors2.old) (length work.old) }
-    ensures { (result ≡ 0) × (ix_of faces.new marks.new vectors.new ≡ ix_of faces2.new marks2.new vectors2.new) }
+) -> Result<(), Refusal>
+    requires { PairArgs g i j (length faces.old) (length marks.old) (length vectors.old) (length faces2.old) (length marks2.old) (length vectors2.old) (length work.old) }
+    ensures { (code_of result ≡ 0) × (ix_of faces.new marks.new vectors.new ≡ ix_of faces2.new marks2.new vectors2.new) }
 {
-    fill_one(bases, faces, marks, vectors, work, v, d, n, cap, mode, i);
-    fill_one(bases, faces2, marks2, vectors2, work, u, d, n, cap, mode, j);
-    let r = merging::merge(
-        faces, marks, vectors, faces2, marks2, vectors2, d, n, cap, mode,
-    );
-    fill_two(
-        bases, faces2, marks2, vectors2, work, u, v, d, n, cap, mode, j, i,
-    );
-    r
+    fill_one(bases, faces, marks, vectors, work, v, g, i);
+    fill_one(bases, faces2, marks2, vectors2, work, u, g, j);
+    let merged = merging::merge(faces, marks, vectors, faces2, marks2, vectors2, g);
+    fill_two(bases, faces2, marks2, vectors2, work, u, v, g, j, i);
+    merged
 }

@@ -34,9 +34,6 @@ room mode i n len h l = omega (arith, comp_room mode i n h, fit mode n len l)
 
 module _ (mode : ℕ) (v : List Float) where
   -- storing the components that are left
-  pub marshal_start : (s : List ℕ) → sets s (0 * comp_size mode) (lower_bytes mode (drop 0 v)) ≡ sets s 0 (lower_bytes mode v)
-  marshal_start s = let e : 0 * comp_size mode ≡ 0 = omega arith in rw e
-
   pub marshal_step : (s t : List ℕ) (i : ℕ) → i < length v → t ≡ sets s (i * comp_size mode) (comp_bytes mode (get_or v i nan))
       → sets t ((i + 1) * comp_size mode) (lower_bytes mode (drop (i + 1) v)) ≡ sets s (i * comp_size mode) (lower_bytes mode (drop i v))
   unfolding lower_bytes
@@ -64,16 +61,13 @@ module _ (mode : ℕ) (v : List Float) where
     marshal_done t e h f =
         simp (e, le-leb (length v * comp_size mode) (length s) h, f ∙ sets_front s (lower_bytes mode v) (length v * comp_size mode) (length_lower mode v) h)
 
+-- what the code that copies out is proved by
+pub ruleset marshalling = (comp_low, fit, unfit, marshal_step, marshal_end, marshal_unknown, marshal_short, marshal_done)
+
 -- ---- reading
 
 module _ (mode : ℕ) (s : List ℕ) (n : ℕ) where
   -- storing the components that are left
-  pub unmarshal_start : (out : List Float) → sets out 0 (components mode s (0 * comp_size mode) (n - 0)) ≡ sets out 0 (components mode s 0 n)
-  unmarshal_start out =
-      let e : 0 * comp_size mode ≡ 0 = omega arith in
-      let f : n - 0 ≡ n = omega arith in
-      rw (e, f)
-
   pub unmarshal_step : (out : List Float) (i : ℕ) (x : Float) → i < n → x ≡ component_at mode s (i * comp_size mode)
       → sets (set out i x) (i + 1) (components mode s ((i + 1) * comp_size mode) (n - (i + 1))) ≡ sets out i (components mode s (i * comp_size mode) (n - i))
   unfolding components
@@ -106,6 +100,9 @@ module _ (mode : ℕ) (s : List ℕ) (out : List Float) where
   unmarshal_done t e h l f =
       let n = length s / comp_size mode in
       simp (e, eq-eqb (length s % comp_size mode) 0 h, le-leb (length s / comp_size mode) (length out) l, f ∙ sets_front out (components mode s 0 n) n (length_components mode s 0 n) l)
+
+-- what the code that reads is proved by
+pub ruleset unmarshalling = (comp_low, room, unmarshal_step, unmarshal_end, unmarshal_unknown, unmarshal_uneven, unmarshal_short, unmarshal_done)
 
 -- ---- reading what was copied out
 

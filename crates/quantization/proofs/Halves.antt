@@ -71,14 +71,8 @@ lowered_tie b h k = lowered_number b h ∙ at_eq (b / 65536) (b % 65536 * 2) 655
 pub lowered_down : (b : ℕ) → b % 2147483648 ≤ 2139095040 → b % 65536 < 32768 → lowered b ≡ b / 65536
 lowered_down b h k = lowered_number b h ∙ at_lt (b / 65536) (b % 65536 * 2) 65536 (omega arith)
 
--- the three cases of a pattern that is no NaN, in one
-pub record Rounds (b h : ℕ) : Type 0 where
-  pub up : 32768 < b % 65536 → h ≡ b / 65536 + 1
-  pub tie : b % 65536 ≡ 32768 → h ≡ b / 65536 + b / 65536 % 2
-  pub down : b % 65536 < 32768 → h ≡ b / 65536
-
-pub lowered_rounds : (b : ℕ) → b % 2147483648 ≤ 2139095040 → Rounds b (lowered b)
-lowered_rounds b h = record { up = lowered_up b h; tie = lowered_tie b h; down = lowered_down b h }
+-- all four
+pub ruleset lowering = (lowered_nan, lowered_up, lowered_tie, lowered_down)
 
 -- a half is below 65536
 pub lowered_lt : (b : ℕ) → b < 4294967296 → lowered b < 65536

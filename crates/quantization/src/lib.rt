@@ -14,6 +14,7 @@ pub mod inner;
 
 // The bf16 of a binary32, both as bits: the nearest, and of two as near the even one; of a NaN its upper half and bit 0040. (half's
 // from_f32.)
+#[tactic(auto, using(crate::proofs::Halves::lowering))]
 pub fn lower(bits: u32) -> u16
     ensures { result ≡ lowered bits }
 {
@@ -33,14 +34,16 @@ pub fn lower(bits: u32) -> u16
 }
 
 // The binary32 of a bf16, both as bits: 16 zeros appended. (half's to_f32.)
+#[tactic(auto, unfolding(crate::specs::Bf16::widened))]
 pub fn widen(h: u16) -> u32
     ensures { result ≡ widened h }
 {
-    h as u32 * 0x1_0000
+    u32::from(h) * 0x1_0000
 }
 
 // Copies the components of v into the array, lowered on the way as the mode says, and keeps the bytes beyond them. Refuses
 // an unknown mode (WrongGeometry), then an array that is shorter than the components need (WrongLength); the array is then unchanged.
+#[tactic(auto, using(crate::proofs::Copies::marshalling))]
 pub fn marshal(mode: usize, v: &[f32], array: &mut [u8]) -> Result<(), Refusal>
     ensures { marshalled (code_of result) array.new ≡ marshal_of mode v.now array.old }
 {
@@ -48,13 +51,12 @@ pub fn marshal(mode: usize, v: &[f32], array: &mut [u8]) -> Result<(), Refusal>
         return Err(Refusal::WrongGeometry);
     }
     let size = paper::component_size(mode);
-    let n = v.len();
-    // by a quotient, since n * size may be too large for a usize
-    if array.len() / size < n {
+    // by a quotient, since v.len() * size may be too large for a usize
+    if array.len() / size < v.len() {
         return Err(Refusal::WrongLength);
     }
-    for i in 0..n {
-        inner::put_component(array, i * size, v[i], mode);
+    for (i, x) in v.iter().enumerate() {
+        inner::put_component(array, i * size, *x, mode);
     }
     Ok(())
 }
@@ -62,6 +64,7 @@ pub fn marshal(mode: usize, v: &[f32], array: &mut [u8]) -> Result<(), Refusal>
 // Reads every component of the array into out, widened as the mode says, and keeps the components of out beyond them. Refuses
 // an unknown mode (WrongGeometry), then an array that isn't made of whole components, or that out has no room for (WrongLength); out is
 // then unchanged.
+#[tactic(auto, using(crate::proofs::Copies::unmarshalling))]
 pub fn unmarshal(mode: usize, array: &[u8], out: &mut [f32]) -> Result<(), Refusal>
     ensures { unmarshalled (code_of result) out.new ≡ unmarshal_of mode array.now out.old }
 {

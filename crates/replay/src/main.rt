@@ -10,140 +10,125 @@
 // A refusal that is not in the record is written as `refused` and its number.
 #![tactic(auto)]
 
-use recorded::inner::{least, letter, low, number, show_refused, shown, shown_float, text};
+use recorded::inner::{float, letter, low, number, show_all, show_refused, shown};
 use replay_drawing::inner::Case;
-use replay_filling::inner::start;
+use std::io;
+use std::io::Read;
 
-// The numbers of a run up to the aim.
-#[derive(Clone, Copy)]
-struct Header {
-    case: Case,
-    rounds: usize,
+// Reads a float and shows its pattern.
+fn shown_float(rt: &impl Print, input: &mut impl Read) -> io::Result<f32> {
+    let pattern = number(input)?;
+    show_all(rt, &[pattern], 8)?;
+    Ok(float(pattern))
 }
 
-// Reads these numbers and shows them.
-fn read_header() -> Header {
-    text(b"run");
-    let d = shown() as usize;
-    let n = shown() as usize;
-    let cap = shown() as usize;
-    let mode = shown() as usize;
-    let rounds = shown() as usize;
-    let grain = (shown() % 65536) as u16;
-    let scale = shown_float();
-    let aim = shown_float();
-    let lengths = paper::lengths_for(d, n, cap, mode);
-    Header {
-        case: Case {
-            d,
-            n,
-            cap,
-            mode,
-            layers: lengths.layers,
-            grain,
-            scale,
-            aim,
-        },
-        rounds,
-    }
+// Reads the numbers of a run up to the aim, and shows them.
+fn read_case(rt: &impl Print, input: &mut impl Read) -> io::Result<Case> {
+    print!(rt; "run")?;
+    let d = shown(rt, input)? as usize;
+    let n = shown(rt, input)? as usize;
+    let cap = shown(rt, input)? as usize;
+    let mode = shown(rt, input)? as usize;
+    Ok(Case {
+        d,
+        n,
+        cap,
+        mode,
+        layers: paper::lengths_for(d, n, cap, mode).layers,
+        rounds: shown(rt, input)? as usize,
+        grain: (shown(rt, input)? & 0xffff) as u16,
+        scale: shown_float(rt, input)?,
+        aim: shown_float(rt, input)?,
+    })
 }
 
-// One line. Answers where the generator stands then.
+// One line.
 fn line(
+    rt: &impl Print,
+    input: &mut impl Read,
     g: Case,
-    seed: u32,
+    seed: &mut u32,
     bases: &[f32],
     faces: &mut [u64],
     marks: &mut [u64],
     vectors: &mut [u8],
-) -> u32 {
-    let l = letter();
-    if l < b'f' {
-        replay_dealing::inner::change(l, g, seed, bases, faces, marks, vectors)
-    } else {
-        replay_asking::inner::ask(l, g, seed, bases, faces, marks, vectors)
+) -> io::Result<()> {
+    match letter(input)? {
+        Some(b'a') => {
+            replay_dealing::inner::add(rt, input, g, seed, bases, faces, marks, vectors)
+        }
+        Some(b'd') => {
+            replay_dealing::inner::deal(rt, input, g, seed, bases, faces, marks, vectors)
+        }
+        Some(b'f') => replay_asking::inner::find(rt, input, g, seed, bases, faces, marks, vectors),
+        Some(b's') => replay_asking::inner::scan(rt, input, g, seed, marks, vectors),
+        Some(b'm') => replay_asking::inner::memory(rt, faces, marks, vectors),
+        _ => Ok(()),
     }
 }
 
-// The lines of a run, after their count.
+// A run over exact memory: the bases, an empty index, and the lines after their count.
 fn play(
+    rt: &impl Print,
+    input: &mut impl Read,
     g: Case,
-    seed: u32,
-    bases: &[f32],
+    bases: &mut [f32],
     faces: &mut [u64],
     marks: &mut [u64],
     vectors: &mut [u8],
-) {
-    let mut s = seed;
-    let mut left = number();
-    while left > 0 {
-        left -= 1;
-        s = line(g, s, bases, faces, marks, vectors);
+) -> io::Result<()> {
+    let mut seed = low(shown(rt, input)?);
+    replay_filling::inner::start(rt, g, &mut seed, bases)?;
+    let refusal = index_memory::new_vector_store(faces, marks, vectors, g.d, g.n, g.cap, g.mode);
+    show_refused(rt, refusal)?;
+    for _ in 0..number(input)? {
+        line(rt, input, g, &mut seed, bases, faces, marks, vectors)?;
     }
-}
-
-// A run over exact memory.
-fn run(
-    g: Case,
-    rounds: usize,
-    bases: &mut [f32],
-    faces: &mut [u64],
-    marks: &mut [u64],
-    vectors: &mut [u8],
-) {
-    let s = start(g, rounds, low(shown()), bases);
-    show_refused(index_memory::new_vector_store(faces, marks, vectors, g.d, g.n, g.cap, g.mode));
-    play(g, s, bases, faces, marks, vectors);
-}
-
-// A run with marks and vectors cut to what its geometry asks for.
-fn cut_run(
-    g: Case,
-    rounds: usize,
-    bases: &mut [f32],
-    faces: &mut [u64],
-    marks: &mut [u64],
-    vectors: &mut [u8],
-) {
-    let lengths = paper::lengths_for(g.d, g.n, g.cap, g.mode);
-    let nm = least(lengths.marks, marks.len());
-    let nv = least(lengths.vectors, vectors.len());
-    run(
-        g,
-        rounds,
-        bases,
-        faces,
-        &mut marks[0..nm],
-        &mut vectors[0..nv],
-    );
+    Ok(())
 }
 
 // One run, of the lent memory as much as its geometry asks for.
-fn one_run(bases: &mut [f32], faces: &mut [u64], marks: &mut [u64], vectors: &mut [u8]) {
-    let h = read_header();
-    let g = h.case;
+fn run(
+    rt: &impl Print,
+    input: &mut impl Read,
+    bases: &mut [f32],
+    faces: &mut [u64],
+    marks: &mut [u64],
+    vectors: &mut [u8],
+) -> io::Result<()> {
+    let g = read_case(rt, input)?;
     let lengths = paper::lengths_for(g.d, g.n, g.cap, g.mode);
-    let nb = least(lengths.bases, bases.len());
-    let nf = least(lengths.faces, faces.len());
-    cut_run(
+    let nb = lengths.bases.min(bases.len());
+    let nf = lengths.faces.min(faces.len());
+    let nm = lengths.marks.min(marks.len());
+    let nv = lengths.vectors.min(vectors.len());
+    play(
+        rt,
+        input,
         g,
-        h.rounds,
-        &mut bases[0..nb],
-        &mut faces[0..nf],
-        marks,
-        vectors,
-    );
+        &mut bases[..nb],
+        &mut faces[..nf],
+        &mut marks[..nm],
+        &mut vectors[..nv],
+    )
 }
 
 // The lent memory, here and in the lines, is what the largest of the recorded runs ask for, each length by itself.
-fn main() {
+fn main(rt: HostRuntime) -> io::Result<()> {
+    let mut input = rt.reader();
     let mut bases = [0.0f32; 8192];
     let mut faces = [0u64; 8192];
     let mut marks = [0u64; 16];
     let mut vectors = [0u8; 131072];
-    let mut left = number();
-    while left > 0 {
-        left -= 1;
-        one_run(&mut bases, &mut faces, &mut marks, &mut vectors);
+    for _ in 0..number(&mut input)? {
+        run(
+            &rt,
+            &mut input,
+            &mut bases,
+            &mut faces,
+            &mut marks,
+            &mut vectors,
+        )?;
     }
+    Ok(())
 }

@@ -4,7 +4,6 @@ use Rattle.std.specs.Float.{binary32}
 use Rattle.std.specs.Float.Ieee.{of_int, sub, mul}
 use Rattle.paper.specs.Choice.{pick}
 use Rattle.ortho.specs.Ortho.{written, orthonormalized}
-use Rattle.replay_drawing.specs.declared.inner.Drawn.{Drawn}
 
 -- one step: the draw is the new place
 abbrev pub next_of : ℕ → ℕ
@@ -37,7 +36,7 @@ id_of s cap = pick (cap == 0) 0 (s % cap)
 abbrev pub basis_scale : Float
 basis_scale = from_bits binary32 1015021568
 
--- one basis was drawn, of k components, and orthonormalised into a second list
-pub record BasisDrawn (k d rounds seed grain : ℕ) (old new : List Float) (r : Drawn) : Type 0 where
-  pub basis : written r.refusal new ≡ orthonormalized d rounds (components_of k seed grain basis_scale) old
-  pub place : r.seed ≡ after_draws k seed
+-- one basis was drawn, of k components, and orthonormalised into a second list, with the number of a refusal; where the generator stands then
+pub record BasisDrawn (k d rounds seed grain : ℕ) (old new : List Float) (fault r : ℕ) : Type 0 where
+  pub basis : written fault new ≡ orthonormalized d rounds (components_of k seed grain basis_scale) old
+  pub place : r ≡ after_draws k seed

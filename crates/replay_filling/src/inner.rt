@@ -1,115 +1,80 @@
 // What is drawn is put to the calls. Of these functions it is proved that they are safe and end.
-use recorded::inner::{least, show_refusal, show_refused, text};
-use replay_drawing::inner::{Case, Drawn, draw_bases, draw_vector, id_of, next_draw};
+use recorded::inner::{show_refusal, show_refused};
+use replay_drawing::inner::{Case, draw_bases, draw_vector, id_of, next_draw};
+use std::io;
 
 // ---- bases
 
-// The length of one of n parts.
-fn part(len: usize, n: usize) -> usize {
-    if n == 0 {
-        return 0;
-    }
-    len / n
-}
-
-// Draws the bases, and ends the line. Answers where the generator stands then.
-pub fn start(g: Case, rounds: usize, seed: u32, bases: &mut [f32]) -> u32 {
+// Draws the bases, and ends the line.
+pub fn start(rt: &impl Print, g: Case, seed: &mut u32, bases: &mut [f32]) -> io::Result<()> {
     let mut basis = [0.0f32; 4096];
-    let len = least(part(bases.len(), g.n), 4096);
-    let r = draw_bases(bases, &mut basis[0..len], g.d, g.n, rounds, seed, g.grain);
-    show_refusal(r.refusal);
-    r.seed
+    let part = bases.len().checked_div(g.n).unwrap_or(0);
+    let len = part.min(basis.len());
+    let basis = &mut basis[..len];
+    let refusal = draw_bases(bases, basis, g.d, g.n, g.rounds, seed, g.grain);
+    show_refusal(rt, refusal)
 }
 
 // ---- additions
 
-// Adds the vector under the id; nothing where the id has the parity that is left out.
-fn add(
-    g: Case,
-    id: usize,
-    out: usize,
-    bases: &[f32],
-    faces: &mut [u64],
-    marks: &mut [u64],
-    vectors: &mut [u8],
-    v: &[f32],
-) -> u32 {
-    if id % 2 == out {
-        0
-    } else {
-        let mut work = [0.0f32; 64];
-        let nw = least(g.d, 64);
-        let nx = least(g.d, v.len());
-        adding::add_vector(
-            bases,
-            faces,
-            marks,
-            vectors,
-            &mut work[0..nw],
-            &v[0..nx],
-            g.d,
-            g.n,
-            g.cap,
-            g.mode,
-            id,
-        )
-    }
-}
-
-// Draws an id and a vector, and adds them.
+// Draws an id and a vector, and adds them; nothing is added where the id has the parity that is left out.
 fn add_one(
     g: Case,
-    seed: u32,
-    out: usize,
-    bases: &[f32],
-    faces: &mut [u64],
-    marks: &mut [u64],
-    vectors: &mut [u8],
-) -> Drawn {
-    let place = next_draw(seed);
-    let mut v = [0.0f32; 64];
-    let s = draw_vector(&mut v, g.d, place, g.grain, g.scale);
-    Drawn {
-        seed: s,
-        refusal: add(
-            g,
-            id_of(place, g.cap),
-            out,
-            bases,
-            faces,
-            marks,
-            vectors,
-            &v,
-        ),
-    }
-}
-
-// Draws m additions, and makes all but those of the parity that is left out; 2 leaves none out. Shows refusals. Answers where the generator stands then.
-pub fn add_all(
-    g: Case,
-    m: u64,
-    seed: u32,
-    out: usize,
+    seed: &mut u32,
+    left_out: Option<usize>,
     bases: &[f32],
     faces: &mut [u64],
     marks: &mut [u64],
     vectors: &mut [u8],
 ) -> u32 {
-    let mut s = seed;
-    let mut left = m;
-    while left > 0 {
-        left -= 1;
-        let r = add_one(g, s, out, bases, faces, marks, vectors);
-        show_refused(r.refusal);
-        s = r.seed;
+    *seed = next_draw(*seed);
+    let id = id_of(*seed, g.cap);
+    let mut v = [0.0f32; 64];
+    draw_vector(&mut v, g.d, seed, g.grain, g.scale);
+    if left_out == Some(id % 2) {
+        return 0;
     }
-    s
+    let mut work = [0.0f32; 64];
+    let len = g.d.min(64);
+    adding::add_vector(
+        bases,
+        faces,
+        marks,
+        vectors,
+        &mut work[..len],
+        &v[..len],
+        g.d,
+        g.n,
+        g.cap,
+        g.mode,
+        id,
+    )
+}
+
+// Draws m additions, and makes all but those of the parity that is left out. Shows refusals.
+pub fn add_all(
+    rt: &impl Print,
+    g: Case,
+    m: u64,
+    seed: &mut u32,
+    left_out: Option<usize>,
+    bases: &[f32],
+    faces: &mut [u64],
+    marks: &mut [u64],
+    vectors: &mut [u8],
+) -> io::Result<()> {
+    for _ in 0..m {
+        let refusal = add_one(g, seed, left_out, bases, faces, marks, vectors);
+        show_refused(rt, refusal)?;
+    }
+    Ok(())
 }
 
 // ---- merging
 
 // A second index merged into the first, and once more, which is refused where it has an id. Shows refusals, and ends the lines.
 pub fn join(
+    rt: &impl Print,
     g: Case,
     faces: &mut [u64],
     marks: &mut [u64],
@@ -117,12 +82,14 @@ pub fn join(
     faces2: &[u64],
     marks2: &[u64],
     vectors2: &[u8],
-) {
-    show_refusal(merging::merge(
+) -> io::Result<()> {
+    let once = merging::merge(
         faces, marks, vectors, faces2, marks2, vectors2, g.d, g.n, g.cap, g.mode,
-    ));
-    text(b"merge");
-    show_refusal(merging::merge(
+    );
+    show_refusal(rt, once)?;
+    print!(rt; "merge")?;
+    let again = merging::merge(
         faces, marks, vectors, faces2, marks2, vectors2, g.d, g.n, g.cap, g.mode,
-    ));
+    );
+    show_refusal(rt, again)
 }

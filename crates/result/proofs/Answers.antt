@@ -2,11 +2,11 @@
 use mathlib.Core.Path.{◌≡◌, refl, sym, ap, ◌∙◌, subst}
 use mathlib.Core.Bool.{Bool, true, false}
 use mathlib.Core.List.{List, [], ◌∷◌}
-use Prim.Native.Nat.{ℕ, suc, zero, ◌+◌, ◌-◌, ◌≤◌, ◌<◌}
+use Prim.Native.Nat.{ℕ, suc, zero, ◌+◌, ◌-◌, ◌≤◌}
 use native.Mathlib.Omega.{arith}
-use borrow.Author.Tests.{eq-eqb, ne_eqb, le-leb, lt-leb, leb-true}
-use lib.Dec.{eqb, leb}
-use lib.Ieee.{Float, nan, lt, is_nan}
+use borrow.Author.Tests.{le-leb, leb-true}
+use lib.Dec.{leb}
+use lib.Ieee.{Float, nan}
 use lib.ListN.{length, take, drop, get_or}
 use lib.Seq.{take_all}
 use Rattle.paper.specs.Choice.{◌and◌}
@@ -15,7 +15,7 @@ use Rattle.result.specs.Lists.{insert_at, all_of, is_held, is_blank, is_zero}
 use Rattle.result.specs.Ranked.{Entry, entry, larger, placed, last_before, stays, fed}
 use Rattle.result.specs.Places.{entries, put, Found, Within, full_above}
 use Rattle.result.specs.Puts.{put_in, set_of}
-use Rattle.result.specs.Sets.{well_formed, entries_of, holding, counted, fed_set, feed_refusal, feed_of, answer, empty_set, made_of}
+use Rattle.result.specs.Sets.{well_formed, entries_of, holding, counted, fed_set}
 use Rattle.result.specs.declared.ResultSet.{ResultSet}
 use Rattle.std.proofs.Common.{Option, Some, None}
 use Rattle.result.proofs.Walk.{length_entries, get_d_entries}
@@ -53,19 +53,6 @@ stays_is k e (suc n) is ss h l =
 pub set_stays : (s : ResultSet) (e : Entry) → s.len ≤ length s.ids → s.len ≤ length s.sims → full_above s.len s.k s.sims e.sim ≡ stays larger s.k e (entries_of s)
 unfolding entries_of
 set_stays s e hi hs = stays_is s.k e s.len s.ids s.sims hi hs
-
--- the answers of the test
-module _ (k : ℕ) (sims : List Float) (x : Float) where
-  pub full_room : (n : ℕ) → (n ≡ k → ⊥) → false ≡ full_above n k sims x
-  full_room n h = rw (ne_eqb n k h)
-
-  pub full_none : (n : ℕ) → n ≡ 0 → false ≡ full_above n k sims x
-  full_none zero h = sym (and_false (eqb 0 k))
-  full_none (suc n) h = absurd (omega arith)
-
-  pub full_last : (n : ℕ) → n ≡ k → (n ≡ 0 → ⊥) → lt x (get_or sims (n - 1) nan) ≡ full_above n k sims x
-  full_last zero h z = absurd (z refl)
-  full_last (suc n) h z = rw (eq-eqb (suc n) k h, le-leb 1 (suc n) (omega arith))
 
 -- ---- an accepted entry
 
@@ -108,14 +95,6 @@ module _ {n : ℕ} {ids : List ℕ} {sims : List Float} {e : Entry} {p : Option 
 -- ---- a set's form
 
 module _ (s : ResultSet) where
-  pub form_k : 256 < s.k → false ≡ well_formed s
-  unfolding well_formed
-  form_k h = rw (lt-leb s.k 256 h)
-
-  pub form_len : s.k ≤ 256 → s.k < s.len → false ≡ well_formed s
-  unfolding well_formed
-  form_len h l = rw (le-leb s.k 256 h, lt-leb s.len s.k l)
-
   pub form_rest : (a b c : Bool) → s.k ≤ 256 → s.len ≤ s.k → a ≡ all_of is_held (take s.len s.sims) → b ≡ all_of is_blank (drop s.len s.sims)
       → c ≡ all_of is_zero (drop s.len s.ids) → (a and b and c) ≡ well_formed s
   unfolding well_formed
@@ -142,36 +121,3 @@ module _ (s : ResultSet) where
         blank_sims = and_l (all_of is_blank (drop s.len s.sims)) _ w3;
         blank_ids = and_r (all_of is_blank (drop s.len s.sims)) _ w3;
       }
-
--- ---- the refusals of a feed
-
-module _ (s : ResultSet) (id : ℕ) (score : Float) where
-  pub refused_13 : false ≡ well_formed s → answer 13 s ≡ feed_of s id score
-  unfolding feed_of feed_refusal
-  refused_13 w = rw (sym w)
-
-  pub refused_10 : well_formed s ≡ true → is_nan score ≡ true → answer 10 s ≡ feed_of s id score
-  unfolding feed_of feed_refusal
-  refused_10 w n = rw (w, n)
-
-  pub refused_12 : well_formed s ≡ true → is_nan score ≡ false → s.checked ≡ 4294967295 → answer 12 s ≡ feed_of s id score
-  unfolding feed_of feed_refusal
-  refused_12 w n f = rw (w, n, eq-eqb s.checked 4294967295 f)
-
-  pub accepted : (r : ResultSet) → well_formed s ≡ true → is_nan score ≡ false → (s.checked ≡ 4294967295 → ⊥)
-      → r ≡ fed_set s (entry id score) → answer 0 r ≡ feed_of s id score
-  unfolding feed_of feed_refusal
-  accepted r w n f q = rw (w, n, ne_eqb s.checked 4294967295 f) (ap (λ (t : ResultSet). answer 0 t) q)
-
-pub below_max : (n m : ℕ) → n < m + 1 → (n ≡ m → ⊥) → n < m
-below_max n m h e = omega arith
-
--- ---- the answers of making a set
-
-pub made_refused : (k : ℕ) (r : ResultSet) → 256 < k → r ≡ empty_set 0 → answer 4 r ≡ made_of k
-unfolding made_of
-made_refused k r h q = rw (lt-leb k 256 h) (ap (λ (t : ResultSet). answer 4 t) q)
-
-pub made : (k : ℕ) (r : ResultSet) → k ≤ 256 → r ≡ empty_set k → answer 0 r ≡ made_of k
-unfolding made_of
-made k r h q = rw (le-leb k 256 h) (ap (λ (t : ResultSet). answer 0 t) q)

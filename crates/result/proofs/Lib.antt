@@ -5,7 +5,6 @@ pub mod Walk
 pub mod Puts
 pub mod Answers
 pub mod Listings
-pub mod Counts
 pub mod Recalls
 pub mod Keeps
 pub mod Order

@@ -1,12 +1,14 @@
 -- Putting an entry into the two arrays of a set is putting it into the list that the set holds. Assumes nothing.
 use mathlib.Core.Path.{◌≡◌, refl, sym, ap, ◌∙◌}
 use mathlib.Core.List.{List, [], ◌∷◌, ◌++◌, map}
-use Prim.Native.Nat.{ℕ, suc, zero, ◌+◌, ◌≤◌, ◌<◌}
-use native.Mathlib.Numerals.{add-one}
+use Prim.Native.Nat.{ℕ, suc, zero, min, ◌≤◌}
+use mathlib.Core.Bool.{Bool, true, false}
+use borrow.Author.Tests.{leb-true, leb-false}
+use lib.Dec.{leb}
 use native.Mathlib.Nat.{not-suc-le-zero, le_of_suc-le-suc}
 use native.Mathlib.Omega.{arith}
 use lib.Ieee.{Float}
-use lib.ListN.{length, take, drop, take-append-drop, length-map}
+use lib.ListN.{length, take, drop, take-append-drop, length-map, length-take}
 use lib.Seq.{take-take, take_all, length-take-le, take-append-le}
 use Rattle.result.specs.Lists.{insert_at}
 use Rattle.result.specs.Ranked.{Entry}
@@ -40,15 +42,24 @@ module _ {A : Type 0} where
   insert_take (suc i) (suc n) a [] h = refl
   insert_take (suc i) (suc n) a (x ∷ xs) h = ap (λ (r : List A). x ∷ r) (insert_take i n a xs (le_of_suc-le-suc h))
 
-  -- with room for one more, and with none
-  cut_room : (i n k : ℕ) (a : A) (xs : List A) → i ≤ n → n ≤ length xs → n < k → take k (insert_at i a (take n xs)) ≡ take (n + 1) (insert_at i a xs)
-  cut_room i n k a xs h l r =
-      let e = length-take-le n xs l in
-      let m = length_insert i a (take n xs) (omega arith) in
-      take_all k (insert_at i a (take n xs)) (omega arith) ∙ insert_take i n a xs h ∙ ap (λ (j : ℕ). take j (insert_at i a xs)) (sym (add-one n))
+  -- a cut of a cut
+  pub taken : (a b m : ℕ) (xs : List A) → m ≡ min a b → take m xs ≡ take a (take b xs)
+  taken a b m xs e = go (leb a b) refl
+    where
+      go : (p : Bool) → leb a b ≡ p → take m xs ≡ take a (take b xs)
+      go true p =
+          let h = leb-true a b p in
+          let q : m ≡ a = omega arith in
+          ap (λ (j : ℕ). take j xs) q ∙ sym (take-take a b xs h)
+      go false p =
+          let h = leb-false a b p in
+          let q : m ≡ b = omega arith in
+          let l = length-take b xs in
+          ap (λ (j : ℕ). take j xs) q ∙ sym (take_all a (take b xs) (omega arith))
 
-  cut_full : (i n : ℕ) (a : A) (xs : List A) → i ≤ n → take n (insert_at i a (take n xs)) ≡ take n (insert_at i a xs)
-  cut_full i n a xs h = ap (λ (r : List A). take n r) (insert_take i n a xs h) ∙ take-take n (suc n) (insert_at i a xs) (omega arith)
+  -- what is left of an insertion into the first n: one more than n, where there is room for it
+  cut : (i n k m : ℕ) (a : A) (xs : List A) → i ≤ n → m ≡ min k (suc n) → take k (insert_at i a (take n xs)) ≡ take m (insert_at i a xs)
+  cut i n k m a xs h e = ap (λ (r : List A). take k r) (insert_take i n a xs h) ∙ sym (taken k (suc n) m (insert_at i a xs) e)
 
 -- ---- the two arrays of a list of entries
 
@@ -129,22 +140,12 @@ module _ (s : ResultSet) (hi : s.len ≤ length s.ids) (hs : s.len ≤ length s.
         let is = lays (map sim_of new) (take m (insert_at i e.sim s.sims)) s.sims m (es ∙ ps) (length-map new sim_of ∙ l) in
         sym (λ j. record { ids = ik j; sims = is j; len = l j; k = s.k; checked = s.checked })
 
-    pub put_room : s.len < s.k → shifted_to s i (s.len + 1) e ≡ put_in s (insert_at i e (entries_of s))
-    put_room r =
+    pub put_at : (m : ℕ) → m ≡ min s.k (suc s.len) → shifted_to s i m e ≡ put_in s (insert_at i e (entries_of s))
+    put_at m r =
         let n = len_is in
-        let m = length_insert i e (entries_of s) (omega arith) in
-        let t = take_all s.k (insert_at i e (entries_of s)) (omega arith) in
-        puts (s.len + 1) (ap length t ∙ m ∙ ap suc n ∙ sym (add-one s.len))
-        (cut_room i s.len s.k e.key s.ids hp hi r)
-        (cut_room i s.len s.k e.sim s.sims hp hs r)
-
-    pub put_full : s.len ≡ s.k → shifted_to s i s.k e ≡ put_in s (insert_at i e (entries_of s))
-    put_full r =
-        let n = len_is in
-        let m = length_insert i e (entries_of s) (omega arith) in
-        puts s.k (length-take-le s.k (insert_at i e (entries_of s)) (omega arith))
-        (rw r (cut_full i s.k e.key s.ids (omega arith)))
-        (rw r (cut_full i s.k e.sim s.sims (omega arith)))
+        let l = length_insert i e (entries_of s) (omega arith) in
+        let t = length-take s.k (insert_at i e (entries_of s)) in
+        puts m (omega arith) (cut i s.len s.k m e.key s.ids hp r) (cut i s.len s.k m e.sim s.sims hp r)
 
     -- full, and the place is past the end: the list is cut to what it was
     pub put_none : s.len ≡ s.k → i ≡ s.len → s ≡ put_in s (insert_at i e (entries_of s))
@@ -156,7 +157,7 @@ module _ (s : ResultSet) (hi : s.len ≤ length s.ids) (hs : s.len ≤ length s.
         sym (ap (λ (r : List Entry). holding s r) c ∙ hold_same)
 
 -- the struct with two new arrays and a new length
-pub shifts : (s : ResultSet) (i n m : ℕ) (e : Entry) (a : List ℕ) (b : List Float) → a ≡ take n (insert_at i e.key s.ids) ++ drop n s.ids
-    → b ≡ take n (insert_at i e.sim s.sims) ++ drop n s.sims → m ≡ n
-    → ◌≡◌ {A = ResultSet} (record { ids = a; sims = b; len = m; k = s.k; checked = s.checked }) (shifted_to s i n e)
-shifts s i n m e a b p q r = λ j. record { ids = p j; sims = q j; len = r j; k = s.k; checked = s.checked }
+pub shifts : (s : ResultSet) (i n : ℕ) (e : Entry) (a : List ℕ) (b : List Float) → a ≡ take n (insert_at i e.key s.ids) ++ drop n s.ids
+    → b ≡ take n (insert_at i e.sim s.sims) ++ drop n s.sims
+    → ◌≡◌ {A = ResultSet} (record { ids = a; sims = b; len = n; k = s.k; checked = s.checked }) (shifted_to s i n e)
+shifts s i n e a b p q = λ j. record { ids = p j; sims = q j; len = n; k = s.k; checked = s.checked }

@@ -8,92 +8,52 @@ ghost use Rattle.result.specs.Puts.{put_in, set_of};
 
 use super::ResultSet;
 
-// An empty set for at most k entries.
+/// An empty set for at most k entries.
 pub fn empty(k: usize) -> ResultSet
     requires { k ≤ 256 }
     ensures { result ≡ empty_set k }
 {
-    let ids = [0u32; 256];
-    let sims = [0.0f32; 256];
     ResultSet {
-        ids,
-        sims,
+        ids: [0; 256],
+        sims: [0.0; 256],
         len: 0,
         k,
         checked: 0,
     }
 }
 
-// Whether a list of len is full and its last score is greater than the new one. A loop that feeds many candidates may ask this first, and then
-// need only raise checked; what the list is closed to once, it stays closed to.
+/// Whether a list of len is full and its last score is greater than the new one. A loop that feeds many candidates may ask this first, and then
+/// need only raise checked; what the list is closed to once, it stays closed to.
 pub fn closed_to(sims: &[f32], len: usize, k: usize, similarity: f32) -> bool
     requires { len ≤ length sims.now }
     ensures { result ≡ full_above len k sims.now similarity }
 {
-    if len != k {
-        return false;
-    }
-    if len == 0 {
-        return false;
-    }
-    let last = sims[len - 1];
-    last > similarity
+    len == k && len != 0 && sims[len - 1] > similarity
 }
 
 // Where the entry goes in a list of len, and none where its id is met first.
-fn place_of<'a>(
-    ids: &'a [u32],
-    sims: &'a [f32],
-    len: usize,
-    id: u32,
-    similarity: f32,
-) -> Option<usize>
+fn place_of(ids: &[u32], sims: &[f32], len: usize, id: u32, similarity: f32) -> Option<usize>
     requires { (len ≤ length ids.now) × (len ≤ length sims.now) }
     ensures { Found len ids.now sims.now (entry id similarity) result }
 {
-    let mut insert = 0;
-    while insert < len {
+    for insert in 0..len {
         if ids[insert] == id {
             return None;
         }
         if sims[insert] < similarity {
             return Some(insert);
         }
-        insert += 1;
     }
     Some(len)
 }
 
 // Puts x in at `at`, and moves what stood from there on along by one, up to `to`: what stood at `to` - 1 falls out.
-fn push_id(ids: &mut [u32; 256], at: usize, to: usize, x: u32)
-    requires at_lt_to { (at < to) × (to ≤ 256) }
-    requires ids_len { length ids.old ≡ 256 }
-    ensures { ids.new ≡ take to (insert_at at x ids.old) ++ drop to ids.old }
+fn push<T: Copy>(xs: &mut [T], at: usize, to: usize, x: T)
+    requires { (at < to) × (to ≤ length xs.old) }
+    ensures { xs.new ≡ take to (insert_at at x xs.old) ++ drop to xs.old }
 {
-    let mut carry = x;
-    let mut j = at;
-    while j < to {
-        let t = ids[j];
-        ids[j] = carry;
-        carry = t;
-        j += 1;
-    }
-}
-
-// The same for the scores.
-fn push_sim(sims: &mut [f32; 256], at: usize, to: usize, x: f32)
-    requires at_lt_to { (at < to) × (to ≤ 256) }
-    requires sims_len { length sims.old ≡ 256 }
-    ensures { sims.new ≡ take to (insert_at at x sims.old) ++ drop to sims.old }
-{
-    let mut carry = x;
-    let mut j = at;
-    while j < to {
-        let t = sims[j];
-        sims[j] = carry;
-        carry = t;
-        j += 1;
-    }
+    xs.copy_within(at..to - 1, at + 1);
+    xs[at] = x;
 }
 
 // The entry at a place of the list that two arrays hold, and the list cut to k. The answer is its length.
@@ -110,21 +70,16 @@ fn put(
     requires ids_len { (length ids.old ≡ 256) × (length sims.old ≡ 256) }
     ensures { set_of ids.new sims.new result k 1 ≡ put_in (set_of ids.old sims.old len k 1) (insert_at at (entry id similarity) (entries len ids.old sims.old)) }
 {
-    if len < k {
-        push_id(ids, at, len + 1, id);
-        push_sim(sims, at, len + 1, similarity);
-        return len + 1;
+    let to = k.min(len + 1);
+    if at < to {
+        push(ids, at, to, id);
+        push(sims, at, to, similarity);
     }
-    if at < k {
-        push_id(ids, at, k, id);
-        push_sim(sims, at, k, similarity);
-        return k;
-    }
-    len
+    to
 }
 
-// Feeds the entry to the list that two arrays hold, and answers its length: so that a loop that feeds many candidates moves no set about. Most of them
-// meet a full list with a greater last score, so that is looked at first.
+/// Feeds the entry to the list that two arrays hold, and answers its length: so that a loop that feeds many candidates moves no set about. Most of them
+/// meet a full list with a greater last score, so that is looked at first.
 pub fn insert(
     ids: &mut [u32; 256],
     sims: &mut [f32; 256],
@@ -146,7 +101,7 @@ pub fn insert(
     }
 }
 
-// The set after the entry, which is counted whether or not it is placed.
+/// The set after the entry, which is counted whether or not it is placed.
 pub fn ranked(set: ResultSet, id: u32, similarity: f32) -> ResultSet
     requires len_le_k { (set.len ≤ set.k) × (set.k ≤ 256) }
     requires checked_bound { set.checked < 4294967295 }

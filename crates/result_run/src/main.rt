@@ -8,82 +8,23 @@
 //   4  at, then two times a set's k, len, checked, one place with its id and score: prints the refusal of a recall
 #![tactic(auto)]
 
-ghost use Rattle.std.specs.Prelude.{◌≡◌, ◌<◌};
+ghost use Rattle.std.specs.Prelude.{◌≡◌};
 ghost use Rattle.result.specs.Sets.{feed_of};
 ghost use Rattle.result.specs.Recalls.{told_by};
 
+use recorded::inner::{float, low, next_number, number, show_floats};
 use result::{Fed, Listed, Recall, ResultSet, SearchResult};
+use std::io;
+use std::io::Read;
 
-// The file descriptor of standard input.
-const STDIN_FILENO: i32 = 0;
+// ---- reading
 
-// The file descriptor of standard output.
-const STDOUT_FILENO: i32 = 1;
-
-fn digit(b: u8) -> u32
-    ensures { result < 16 }
-{
-    (b as u32 % 16 + b as u32 / 64 * 9) % 16
+fn id(input: &mut impl Read) -> io::Result<u32> {
+    Ok(low(number(input)?))
 }
 
-// Word i of the input, and 0 past its end.
-fn word(input: &[u8], i: usize) -> u32
-    ensures { result < 4294967296 }
-{
-    if i >= input.len() / 9 {
-        return 0;
-    }
-    let mut value: u32 = 0;
-    let mut j = 0;
-    while j < 8 {
-        value = value % 268435456 * 16 + digit(input[i * 9 + j]);
-        j += 1;
-    }
-    value
-}
-
-fn space() {
-    io::write_all(STDOUT_FILENO, b" ");
-}
-
-fn line() {
-    io::write_all(STDOUT_FILENO, b"\n");
-}
-
-fn number(n: u64) {
-    io::print_decimal(STDOUT_FILENO, n);
-}
-
-fn flag(b: bool) {
-    if b {
-        io::write_all(STDOUT_FILENO, b"yes ");
-    } else {
-        io::write_all(STDOUT_FILENO, b"no ");
-    }
-}
-
-fn show_entry(e: SearchResult) {
-    space();
-    number(e.id as u64);
-    space();
-    io::print_hex(STDOUT_FILENO, sqrt::bits_of(e.similarity) as u64, 8);
-}
-
-// The count, the length and the entries.
-fn show(set: ResultSet) {
-    number(set.checked as u64);
-    space();
-    let n = set.len();
-    number(n as u64);
-    let mut i = 0;
-    while i < n {
-        match set.result_at(i) {
-            Listed::Here(e) => show_entry(e),
-            Listed::Past => space(),
-        }
-        i += 1;
-    }
-    line();
+fn score(input: &mut impl Read) -> io::Result<f32> {
+    Ok(float(number(input)?))
 }
 
 // One feed of a set that stays in a local and is lent.
@@ -105,36 +46,65 @@ fn fed(set: ResultSet, id: u32, similarity: f32, in_place: bool) -> Fed
     set.feed(id, similarity)
 }
 
-// The set for k entries that the m entries from word `at` on leave; a refusal ends the feeding.
-fn grown(input: &[u8], at: usize, k: u32, m: u32, in_place: bool) -> Fed
-    requires { at < 1099511627776 }
-{
-    let mut cur = ResultSet::new(k as usize);
-    let mut j: u32 = 0;
-    while j < m {
-        if cur.refusal != 0 {
-            return cur;
+// The set that k, m and m entries leave; a refusal ends the feeding.
+fn grown(input: &mut impl Read, in_place: bool) -> io::Result<Fed> {
+    let k = number(input)? as usize;
+    let m = number(input)?;
+    let mut last = ResultSet::new(k);
+    for _ in 0..m {
+        let id = id(input)?;
+        let similarity = score(input)?;
+        if last.refusal == 0 {
+            last = fed(last.set, id, similarity, in_place);
         }
-        let from = at + 2 * (j as usize);
-        let id = word(input, from);
-        let similarity = sqrt::of_bits(word(input, from + 1));
-        let set = cur.set;
-        let next = fed(set, id, similarity, in_place);
-        cur = next;
-        j += 1;
     }
-    cur
+    Ok(last)
 }
 
-fn show_grown(f: Fed) {
-    if f.refusal != 0 {
-        io::write_all(STDOUT_FILENO, b"refused ");
-        number(f.refusal as u64);
-        line();
-        return;
+// A set with six words for k, len, checked, a place, and the id and score there.
+fn made_up(input: &mut impl Read) -> io::Result<ResultSet> {
+    let mut set = ResultSet {
+        ids: [0; 256],
+        sims: [0.0; 256],
+        k: number(input)? as usize,
+        len: number(input)? as usize,
+        checked: low(number(input)?),
+    };
+    let place = number(input)? as usize;
+    let id = id(input)?;
+    let similarity = score(input)?;
+    if place < 256 {
+        set.ids[place] = id;
+        set.sims[place] = similarity;
     }
-    let set = f.set;
-    show(set);
+    Ok(set)
+}
+
+// ---- showing
+
+fn show_entry(rt: &impl Print, e: SearchResult) -> io::Result<()> {
+    print!(rt; " {}", e.id)?;
+    show_floats(rt, &[e.similarity])
+}
+
+// The count, the length and the entries.
+fn show(rt: &impl Print, set: &ResultSet) -> io::Result<()> {
+    let n = set.len();
+    print!(rt; "{} {n}", set.checked)?;
+    for i in 0..n {
+        match set.result_at(i) {
+            Listed::Here(e) => show_entry(rt, e)?,
+            Listed::Past => print!(rt; " ")?,
+        }
+    }
+    println!(rt; "")
+}
+
+fn show_grown(rt: &impl Print, f: Fed) -> io::Result<()> {
+    if f.refusal != 0 {
+        return println!(rt; "refused {}", f.refusal);
+    }
+    show(rt, &f.set)
 }
 
 // The refusal of a recall, and 0 for none.
@@ -148,139 +118,65 @@ fn refusal_of(r: Recall) -> u32
     }
 }
 
-fn show_recall(r: Recall) {
+fn show_recall(rt: &impl Print, r: Recall) -> io::Result<()> {
     match r {
         Recall::Share(x) => {
-            if x != x {
-                io::write_all(STDOUT_FILENO, b"nan");
+            if x.is_nan() {
+                println!(rt; "nan")
             } else {
-                io::print_hex(STDOUT_FILENO, f64::to_bits(x), 16);
+                println!(rt; "{:016x}", x.to_bits())
             }
         }
-        Recall::BadSet => {
-            io::write_all(STDOUT_FILENO, b"refused 13");
-        }
-        Recall::AtZero => {
-            io::write_all(STDOUT_FILENO, b"refused 14");
-        }
+        Recall::BadSet => println!(rt; "refused 13"),
+        Recall::AtZero => println!(rt; "refused 14"),
     }
-    line();
 }
 
-// A set with six words for k, len, checked, a place, and the id and score there.
-fn made_up(input: &[u8], at: usize) -> ResultSet
-    requires { at < 1099511627776 }
-{
-    let ids = [0u32; 256];
-    let sims = [0.0f32; 256];
-    let mut set = ResultSet {
-        ids,
-        sims,
-        len: word(input, at + 1) as usize,
-        k: word(input, at) as usize,
-        checked: word(input, at + 2),
-    };
-    let place = word(input, at + 3) as usize;
-    if place < 256 {
-        set.ids[place] = word(input, at + 4);
-        set.sims[place] = sqrt::of_bits(word(input, at + 5));
-    }
-    set
+fn yes(b: bool) -> &'static str {
+    if b { "yes" } else { "no" }
 }
 
-// Kinds 0 and 1.
-fn feeding(input: &[u8], at: usize, in_place: bool) -> usize
-    requires { at < 16777216 }
-    ensures { at < result }
-{
-    let k = word(input, at);
-    let m = word(input, at + 1);
-    show_grown(grown(input, at + 2, k, m, in_place));
-    at + 2 + 2 * (m as usize)
-}
+// ---- cases
 
 // Kind 2.
-fn recalling(input: &[u8], at: usize) -> usize
-    requires { at < 16777216 }
-    ensures { at < result }
-{
-    let m = word(input, at + 2);
-    let second = at + 3 + 2 * (m as usize);
-    let n = word(input, second + 1);
-    let a = grown(input, at + 3, word(input, at + 1), m, false);
-    let b = grown(input, second + 2, word(input, second), n, false);
-    let x = a.set;
-    let y = b.set;
-    show_recall(x.compute_recall(y, word(input, at)));
-    second + 2 + 2 * (n as usize)
+fn recalling(rt: &impl Print, input: &mut impl Read) -> io::Result<()> {
+    let at = low(number(input)?);
+    let a = grown(input, false)?;
+    let b = grown(input, false)?;
+    show_recall(rt, a.set.compute_recall(b.set, at))
 }
 
 // Kind 3.
-fn refusing(input: &[u8], at: usize) -> usize
-    requires { at < 16777216 }
-    ensures { at < result }
-{
-    let set = made_up(input, at);
-    let id = word(input, at + 6);
-    let similarity = sqrt::of_bits(word(input, at + 7));
-    flag(set.well_formed());
-    flag(set.is_empty());
+fn refusing(rt: &impl Print, input: &mut impl Read) -> io::Result<()> {
+    let set = made_up(input)?;
+    let id = id(input)?;
+    let similarity = score(input)?;
+    print!(rt; "{} {} ", yes(set.well_formed()), yes(set.is_empty()))?;
     let f = set.feed(id, similarity);
-    number(f.refusal as u64);
-    space();
-    number(f.set.len as u64);
-    space();
-    number(f.set.checked as u64);
-    line();
-    at + 8
+    println!(rt; "{} {} {}", f.refusal, f.set.len, f.set.checked)
 }
 
 // Kind 4.
-fn recall_refusing(input: &[u8], at: usize) -> usize
-    requires { at < 16777216 }
-    ensures { at < result }
-{
-    let a = made_up(input, at + 1);
-    let b = made_up(input, at + 7);
-    number(refusal_of(a.compute_recall(b, word(input, at))) as u64);
-    line();
-    at + 13
+fn recall_refusing(rt: &impl Print, input: &mut impl Read) -> io::Result<()> {
+    let at = low(number(input)?);
+    let a = made_up(input)?;
+    let b = made_up(input)?;
+    println!(rt; "{}", refusal_of(a.compute_recall(b, at)))
 }
 
-// The case whose kind stands at word `at`: it answers where the next one starts.
-fn step(input: &[u8], at: usize) -> usize
-    requires { at < 16777215 }
-    ensures { at < result }
-{
-    let kind = word(input, at);
-    if kind == 0 {
-        return feeding(input, at + 1, false);
-    }
-    if kind == 1 {
-        return feeding(input, at + 1, true);
-    }
-    if kind == 2 {
-        return recalling(input, at + 1);
-    }
-    if kind == 3 {
-        return refusing(input, at + 1);
-    }
-    recall_refusing(input, at + 1)
-}
-
-fn run(input: &[u8]) {
-    let n = input.len() / 9;
-    let mut at = 0;
-    while at < n {
-        if at >= 16777215 {
-            return;
+fn main(rt: HostRuntime) -> io::Result<()> {
+    let mut input = rt.reader();
+    for _ in 0..u64::MAX {
+        let Some(kind) = next_number(&mut input)? else {
+            break;
+        };
+        match kind {
+            0 => show_grown(&rt, grown(&mut input, false)?)?,
+            1 => show_grown(&rt, grown(&mut input, true)?)?,
+            2 => recalling(&rt, &mut input)?,
+            3 => refusing(&rt, &mut input)?,
+            _ => recall_refusing(&rt, &mut input)?,
         }
-        at = step(input, at);
     }
-}
-
-fn main() {
-    let mut input = [0u8; 262144];
-    let n = io::read_full(STDIN_FILENO, &mut input);
-    run(&input[..n]);
+    Ok(())
 }

@@ -1,21 +1,11 @@
 -- Floats and their bits: a NaN has one pattern, and a NaN's pattern is a NaN. Assumes nothing.
 use mathlib.Core.Path.{◌≡◌, refl, sym, ◌∙◌, subst}
-use mathlib.Core.Bool.{Bool, true, false, not}
+use mathlib.Core.Bool.{Bool, true, not}
 use Prim.Native.Nat.{ℕ, ◌%◌, ◌≤◌, ◌<◌}
 use lib.Dec.{T}
-use lib.Ieee.{Float, nan, inf, fin, binary32, is_nan, ne, div, odd, of_fields, of_bits, to_bits, nan_bits}
-use lib.Ieee.Compare.{differs_from_itself, nan_differs}
+use lib.Ieee.{Float, nan, inf, fin, binary32, is_nan, of_bits, to_bits, nan_bits}
 use lib.Ieee.Bits.{nan_bits_is, nan_bits_above}
 use borrow.Author.Tests.{lt-ltb, le-ltb}
-
-pub only_nan : (x : Float) → ne x x ≡ true → x ≡ nan
-only_nan x e = differs_from_itself x (subst T (sym e) tt)
-
-pub no_nan : (x : Float) → ne x x ≡ false → T (not (is_nan x))
-unfolding is_nan
-no_nan nan e = absurd (subst T (sym nan_differs ∙ e) tt)
-no_nan (inf s) e = tt
-no_nan (fin s m k) e = tt
 
 is_nan_lem : (x : Float) → is_nan x ≡ true → x ≡ nan
 unfolding is_nan
@@ -26,10 +16,6 @@ is_nan_lem (fin s m k) e = absurd (subst T (sym e) tt)
 pub nan_bits_lem : to_bits binary32 nan ≡ 2143289344
 unfolding to_bits
 nan_bits_lem = refl
-
-pub zero_by_zero : div binary32 (of_bits binary32 0) (of_bits binary32 0) ≡ nan
-unfolding div of_bits of_fields odd
-zero_by_zero = refl
 
 pub reads_nan : (n : ℕ) → 2139095040 < n % 2147483648 → of_bits binary32 n ≡ nan
 reads_nan n h = is_nan_lem (of_bits binary32 n) (sym (nan_bits_is binary32 n) ∙ nan_bits_above binary32 n ∙ lt-ltb 2139095040 (n % 2147483648) h)

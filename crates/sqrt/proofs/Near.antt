@@ -17,10 +17,6 @@ sq_lt a b h = lt_of_le_of_lt (mul-le-mul_left a (le_of_lt h)) (mul-lt-mul_of_pos
 pub sq_le : (a b : ℕ) → a ≤ b → a * a ≤ b * b
 sq_le a b h = mul-le-mul h h
 
--- a candidate's square is at most 2 ^ 50
-pub small_square : (m : ℕ) → m ≤ 33554432 → m * m ≤ 1125899906842624
-small_square m h = mul-le-mul h h
-
 -- the square of an odd number is odd
 odd_square : (r : ℕ) → r % 2 ≡ 1 → r * r % 2 ≡ 1
 odd_square r h =

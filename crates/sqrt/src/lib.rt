@@ -8,9 +8,9 @@ ghost use Rattle.sqrt.specs.Root.{Near, Sqrt};
 ghost use Rattle.sqrt.specs.RootOf.{root};
 ghost use Rattle.sqrt.specs.Laws.{Laws};
 
-// The pattern of +infinity: larger patterns below the sign bit are NaN.
+// The pattern of +infinity.
 const INFINITY: u32 = 0x7F80_0000;
-// The pattern that every NaN is answered by.
+// The pattern that every NaN is answered by, as the library's f32_to_bits_with_nan does.
 const NAN: u32 = 0x7FC0_0000;
 // The sign's bit alone, the pattern of -0.
 const SIGN: u32 = 0x8000_0000;
@@ -31,11 +31,11 @@ fn guess(a: u64) -> u64
         * 16777216.0;
     let y1 = (y + x / y) * 0.5;
     let y2 = (y1 + x / y1) * 0.5;
-    if y2 != y2 {
+    if y2.is_nan() {
         return 1;
     }
     // the whole part of a float from 2^24 to 2^25: its 24 highest digits and the leading one
-    f64::to_bits(y2) / 268435456 % 16777216 + 16777216
+    y2.to_bits() / 268435456 % 16777216 + 16777216
 }
 
 // A candidate that is not too large: c if it isn't, else 0.
@@ -43,10 +43,7 @@ fn not_above(a: u64, c: u64) -> u64
     requires { c < 33554432 }
     ensures { (result * result ≤ a) × (result ≤ c) }
 {
-    if c * c <= a {
-        return c;
-    }
-    0
+    if c * c <= a { c } else { 0 }
 }
 
 // A candidate that is too large: c if it is, else 2^25.
@@ -54,10 +51,7 @@ fn above(a: u64, c: u64) -> u64
     requires { (a < 2 ^ 50) × (c ≤ 33554432) }
     ensures { (a < result * result) × (c ≤ result) × (result ≤ 33554432) }
 {
-    if a < c * c {
-        return c;
-    }
-    33554432
+    if a < c * c { c } else { 33554432 }
 }
 
 // The largest r with r * r <= a, by halving the span between a candidate that is not too large and one that is. The span
@@ -116,15 +110,15 @@ pub fn sqrt_bits(bits: u32) -> u32
             if SIGN <= bits {
                 return NAN;
             }
-            let shift = u32::leading_zeros(digits) - 8;
-            rounded_root((digits << shift) as u64, 125 - shift)
+            let shift = digits.leading_zeros() - 8;
+            rounded_root(u64::from(digits << shift), 125 - shift)
         }
         // normal
         1..=254 => {
             if SIGN <= bits {
                 return NAN;
             }
-            rounded_root((digits + LEADING) as u64, field as u32 + 124)
+            rounded_root(u64::from(digits + LEADING), u32::from(field) + 124)
         }
         // an infinity or NaN
         255 => {
@@ -140,20 +134,14 @@ pub fn sqrt_bits(bits: u32) -> u32
 pub fn bits_of(x: f32) -> u32
     ensures { result ≡ to_bits binary32 x }
 {
-    if x != x {
-        return NAN;
-    }
-    f32::to_bits(x)
+    std::num::f32_to_bits_with_nan(x)
 }
 
 // The float of a bit pattern; of a NaN's pattern a NaN, whatever its payload.
 pub fn of_bits(n: u32) -> f32
     ensures { result ≡ of_bits binary32 n }
 {
-    if INFINITY < n % SIGN {
-        return 0.0f32 / 0.0f32;
-    }
-    f32::from_bits(n)
+    std::num::f32_from_bits_with_nan(n)
 }
 
 // The square root of a float, on its bits.

@@ -3,52 +3,38 @@
 // pattern in four bytes, the lowest first.
 #![tactic(auto)]
 
-// The descriptor of the standard input.
-const STDIN_FILENO: i32 = 0;
+use std::io;
+use std::io::Read;
 
-// The descriptor of the standard output.
-const STDOUT_FILENO: i32 = 1;
-
-// A line: the pattern and the answer, each with so many hexadecimal digits.
-fn show(pattern: u64, digits: usize, answer: u64, width: usize) -> bool {
-    if !io::print_hex(STDOUT_FILENO, pattern, digits) {
-        return false;
-    }
-    if !io::write_all(STDOUT_FILENO, b" ") {
-        return false;
-    }
-    if !io::print_hex(STDOUT_FILENO, answer, width) {
-        return false;
-    }
-    io::write_all(STDOUT_FILENO, b"\n")
-}
-
-fn run(kind: u8, bits: u32) -> bool {
+// A line: the pattern and the answer.
+fn run(rt: &impl Print, kind: u8, bits: u32) -> io::Result<()> {
     match kind {
-        0 => show(bits as u64, 8, sqrt::sqrt_bits(bits) as u64, 8),
-        1 => show(bits as u64, 8, quantization::lower(bits) as u64, 4),
+        0 => {
+            let root = sqrt::sqrt_bits(bits);
+            println!(rt; "{bits:08x} {root:08x}")
+        }
+        1 => {
+            let half = quantization::lower(bits);
+            println!(rt; "{bits:08x} {half:04x}")
+        }
         _ => {
-            let half = (bits % 65536) as u16;
-            show(half as u64, 4, quantization::widen(half) as u64, 8)
+            let half = (bits & 0xffff) as u16;
+            let wide = quantization::widen(half);
+            println!(rt; "{half:04x} {wide:08x}")
         }
     }
 }
 
-// Every whole record, in order.
-fn run_all(records: &[u8]) -> bool {
-    let mut at = 0;
-    while 5 <= records.len() - at {
-        let bits = quantization::inner::get_le(records, at + 1, 4);
-        if !run(records[at], bits as u32) {
-            return false;
+fn main(rt: HostRuntime) -> io::Result<()> {
+    let mut input = rt.reader();
+    let mut kind = [0u8; 1];
+    let mut pattern = [0u8; 4];
+    for _ in 0..u64::MAX {
+        if input.read(&mut kind)? == 0 {
+            break;
         }
-        at += 5;
+        input.read_exact(&mut pattern)?;
+        run(&rt, kind[0], u32::from_le_bytes(pattern))?;
     }
-    true
-}
-
-fn main() {
-    let mut input = io::large_buffer();
-    let n = io::read_full(STDIN_FILENO, &mut input);
-    run_all(&input[..n]);
+    Ok(())
 }

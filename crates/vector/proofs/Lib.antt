@@ -1,2 +1,1 @@
 pub mod Vectors
-pub mod Answer

@@ -3,6 +3,7 @@ ghost use Rattle.std.specs.Prelude.{◌≡◌, length};
 ghost use Rattle.vector.specs.Fold.{dot_of, squares_of};
 
 // The dot product.
+#[tactic(auto, using(crate::proofs::Vectors::fold2_step, crate::proofs::Vectors::fold2_end), unfolding(crate::specs::Fold::dot_of))]
 pub fn dot_of(vec: &[f32], other: &[f32]) -> f32
     requires { length vec.now ≡ length other.now }
     ensures { result ≡ dot_of vec.now other.now }
@@ -15,6 +16,7 @@ pub fn dot_of(vec: &[f32], other: &[f32]) -> f32
 }
 
 // The sum of the squared differences.
+#[tactic(auto, using(crate::proofs::Vectors::fold2_step, crate::proofs::Vectors::fold2_end), unfolding(crate::specs::Fold::squares_of))]
 pub fn squares_of(vec: &[f32], other: &[f32]) -> f32
     requires { length vec.now ≡ length other.now }
     ensures { result ≡ squares_of vec.now other.now }

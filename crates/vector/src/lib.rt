@@ -67,6 +67,7 @@ fn divide_all(vec: &mut [f32], norm: f32)
 
 /// Divides each component by the norm, the root of the vector's dot product with itself. Refuses 5 for a component that is not finite, then 6 for a norm that is
 /// zero or not finite or a quotient that is not finite. A refusal leaves the vector as it was: the quotients are tried before the first is written.
+#[tactic(auto, unfolding(crate::specs::Norm::norm_number, crate::specs::Norm::normalized, crate::specs::Norm::norm_of))]
 pub fn normalize(vec: &mut [f32]) -> Result<(), Refusal>
     ensures { normal (code_of result) vec.new ≡ normal (norm_number vec.old) (normalized vec.old) }
 {
@@ -74,13 +75,7 @@ pub fn normalize(vec: &mut [f32]) -> Result<(), Refusal>
         return Err(Refusal::NotFinite);
     }
     let norm = sqrt::sqrt(inner::dot_of(vec, vec));
-    if !is_finite(norm) {
-        return Err(Refusal::NoNorm);
-    }
-    if norm == 0.0 {
-        return Err(Refusal::NoNorm);
-    }
-    if !quotients_finite(vec, norm) {
+    if !is_finite(norm) || norm == 0.0 || !quotients_finite(vec, norm) {
         return Err(Refusal::NoNorm);
     }
     divide_all(vec, norm);

@@ -4,7 +4,6 @@ use native.Mathlib.Omega.{arith}
 use mathlib.Core.Path.{◌≡◌, refl, sym, ap, ◌∙◌, subst}
 use mathlib.Core.Bool.{Bool, true, false}
 use mathlib.Core.List.{List}
-use Rattle.std.proofs.Common.{Option, Some, None}
 use lib.Dec.{leb, eqb}
 use lib.Ieee.{Float}
 use lib.ListN.{length}
@@ -17,10 +16,12 @@ use Rattle.bitmaps.specs.Words.{has, size}
 use Rattle.bitmaps.proofs.Digits.{Words}
 use Rattle.counting_bitmap.specs.Layers.{layer}
 use Rattle.counting_bitmap.specs.TopLayer.{top_of, Highest}
+use Rattle.std.specs.Prelude.{Option, Some, None}
 use Rattle.counting_bitmap.proofs.Highest.{top_layer_is}
 use Rattle.result.specs.Ranked.{larger, in_order, Outcome}
-use Rattle.result.specs.Sets.{Fed, entries_of, empty_set}
+use Rattle.result.specs.Sets.{entries_of, empty_set}
 use Rattle.result.specs.declared.ResultSet.{ResultSet}
+use Rattle.result.specs.Sets.{Fed}
 use Rattle.result.proofs.Keeps.{Sound, sound_empty}
 use Rattle.vector.specs.Finite.{all_finite}
 use Rattle.backend_memory.specs.Ranking.{similarity_of, scored, rank_of}
@@ -31,7 +32,8 @@ use Rattle.backend_memory.proofs.Best.{rank_long, rank_best}
 use Rattle.candidates.specs.Gathering.{Query, target_finite, layers_of, dropped_of}
 use Rattle.candidates.proofs.Unions.{search_drops_none}
 use Rattle.candidates.proofs.Words.{layer_words}
-use Rattle.vector_store.specs.Search.{Nearest, AcceptedSearch, searched_by, refused, ranked_by, top_rank_of, found_of, Work, searched, cleared, search_shape, search_refusal, search_of}
+use Rattle.vector_store.specs.Search.{AcceptedSearch, searched_by, refused, ranked_by, top_rank_of, found_of, Work, searched, cleared, search_shape, search_refusal, search_of}
+use Rattle.vector_store.specs.Search.{Nearest}
 
 -- ---- an accepted search
 

@@ -10,7 +10,7 @@ use Rattle.result.specs.Sets.{entries_of, well_formed}
 use Rattle.backend_memory.specs.Ranking.{similarity_of, scored}
 use Rattle.backend_memory.specs.Listed.{Each, TrueEntry}
 use Rattle.candidates.specs.Gathering.{Query, layers_of}
-use Rattle.vector_store.specs.Search.{Nearest, Work, searched_by, search_of, AcceptedSearch}
+use Rattle.vector_store.specs.Search.{Work, Nearest, searched_by, search_of, AcceptedSearch}
 
 pub record Laws : Type 0 where
   -- A search that answers 0 chose a layer and ranked its ids, and dropped nothing. The laws below are of such an answer r.

@@ -1,37 +1,50 @@
 -- `adding::check_and_write` meets its contract. Assumes nothing.
-use Prim.Native.Nat.{ℕ, ◌*◌, ◌<◌}
-use mathlib.Core.Path.{◌∙◌, sym, refl, subst}
-use Rattle.paper.specs.Geometry.{geo}
-use Rattle.adding.proofs.Cases.{late_six, late_seven, late_none, was_finite, was_not, written_is}
+use Rattle.std.proofs.Common.{ℕ, ◌*◌, ◌<◌, ◌≡◌, ◌∙◌, sym, subst, Err, rules}
+use Rattle.adding.proofs.Cases.{kept_by, late_six, late_seven, late_none, written_is}
 use Rattle.adding.proofs.Accepted.{face_slot_low}
 use Rattle.adding.proofs.check_and_write.Goals as goal
 
-pub returns-then-normalize_into-ne0 : goal.returns-then-normalize_into-ne0
-returns-then-normalize_into-ne0 c = let a = c.args in (late_six a.d a.n a.bases.now a.v.now _ c.normalize_into.ensures.0 c.if-normalize_into-ne0.true, refl)
-
-pub returns-then-found-ne0 : goal.returns-then-found-ne0
-returns-then-found-ne0 c =
+pub returns-in_err-normalize_into-clause-told : goal.returns-in_err-normalize_into-clause-told
+returns-in_err-normalize_into-clause-told c =
     let a = c.args in
-    (late_seven a.d a.n a.bases.now a.v.now (sym c.normalize_into.ensures.0 ∙ c.if-normalize_into-ne0.false) (was_not _ _ c.slots_of-found.ensures.answer c.if-found-ne0.true), refl)
+    let e : c.from_residual.result ≡ Err c.in_err-normalize_into.field-0.0 = search rules in
+    rw e (late_six a.g.d a.g.n a.bases.now a.v.now _ c.in_err-normalize_into.ensures.0 c.requires.finite)
+
+pub returns-in_err-normalize_into-clause-index : goal.returns-in_err-normalize_into-clause-index
+returns-in_err-normalize_into-clause-index c =
+    let e : c.from_residual.result ≡ Err c.in_err-normalize_into.field-0.0 = search rules in
+    rw e (sym (kept_by c.in_err-normalize_into.field-0.0 _ _))
+
+pub returns-in_err-slots-clause-told : goal.returns-in_err-slots-clause-told
+returns-in_err-slots-clause-told c =
+    let a = c.args in
+    let e : c.from_residual-in_err-slots.result ≡ Err c.in_err-slots.field-0.0 = search rules in
+    rw e (late_seven a.g.d a.g.n a.bases.now a.v.now _ c.in_ok-normalize_into.ensures.0 c.in_err-slots.ensures.told)
+
+pub returns-in_err-slots-clause-index : goal.returns-in_err-slots-clause-index
+returns-in_err-slots-clause-index c =
+    let e : c.from_residual-in_err-slots.result ≡ Err c.in_err-slots.field-0.0 = search rules in
+    rw e (sym (kept_by c.in_err-slots.field-0.0 _ _))
 
 pub write-requires : goal.write-requires
 write-requires c =
     let a = c.args in
-    let s = c.requires in
+    let s = c.requires.shaped in
     record {
       facts = s.facts;
       faces = s.faces;
       marks = s.marks;
       vectors = s.vectors;
-      work = c.slots_of-found.auto.work ∙ c.normalize_into.auto.work ∙ s.work;
+      work = c.slots_of.auto.work ∙ c.normalize_into.auto.work ∙ s.work;
       vector = s.vector;
       id_low = s.id_low;
-      low = λ (b : ℕ) (l : b < a.n). subst (λ (k : ℕ). k < 2 * a.d) (sym (c.slots_of-found.ensures.slots c.if-found-ne0.false b l)) (face_slot_low a.d a.bases.now a.v.now b s.vector s.facts.d_low);
+      low = λ (b : ℕ) (l : b < a.g.n). subst (λ (k : ℕ). k < 2 * a.g.d) (sym (c.in_ok-slots.ensures.found b l)) (face_slot_low a.g.d a.bases.now a.v.now b s.vector s.facts.d_low);
     }
 
-pub returns : goal.returns
-returns c =
-    let a = c.args in (
-      late_none a.d a.n a.bases.now a.v.now (sym c.normalize_into.ensures.0 ∙ c.if-normalize_into-ne0.false) (was_finite _ _ c.slots_of-found.ensures.answer c.if-found-ne0.false),
-      written_is (geo a.d a.n a.cap a.mode) a.bases.now a.id a.v.now _ _ c.slots_of-found.result.slots c.write.ensures (c.slots_of-found.ensures.slots c.if-found-ne0.false),
-    )
+pub returns-clause-told : goal.returns-clause-told
+returns-clause-told c = let a = c.args in late_none a.g.d a.g.n a.bases.now a.v.now c.in_ok-normalize_into.ensures.0 c.in_ok-slots.ensures.told
+
+pub returns-clause-index : goal.returns-clause-index
+returns-clause-index c =
+    let a = c.args in
+    written_is a.g a.bases.now a.id a.v.now _ _ c.in_ok-slots.slots c.write.ensures c.in_ok-slots.ensures.found

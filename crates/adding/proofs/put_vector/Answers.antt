@@ -24,9 +24,9 @@ overflow_mul-id c =
 pub put_components-requires : goal.put_components-requires
 put_components-requires c =
     let a = c.args in
-    let e : length c.normalize_into.new.work ≡ a.d = c.normalize_into.auto.work ∙ c.requires.work in
-    let p = place a.id a.cap (comp_size a.mode * a.d) c.requires.id_low in
-    rw (c.component_size-size.ensures, e) (subst (λ (k : ℕ). a.id * (comp_size a.mode * a.d) + comp_size a.mode * a.d ≤ k) (sym c.requires.vectors) p)
+    let e : length c.normalize_into.new.work ≡ a.g.d = c.normalize_into.auto.work ∙ c.requires.work in
+    let p = place a.id a.g.cap (comp_size a.g.mode * a.g.d) c.requires.id_low in
+    rw (c.component_size-size.ensures, e) (subst (λ (k : ℕ). a.id * (comp_size a.g.mode * a.g.d) + comp_size a.g.mode * a.g.d ≤ k) (sym c.requires.vectors) p)
 
 pub returns : goal.returns
 unfolding with_vector

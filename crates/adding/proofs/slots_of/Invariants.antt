@@ -1,4 +1,4 @@
-use Prim.Native.Nat.{ℕ, ◌*◌, ◌-◌, ◌≤◌, ◌<◌}
+use Prim.Native.Nat.{ℕ, ◌<◌}
 use mathlib.Core.Path.{◌≡◌}
 use mathlib.Core.Bool.{true}
 use lib.ListN.{length, get_or}
@@ -8,7 +8,4 @@ use Rattle.adding.proofs.slots_of.Given as goal
 
 abbrev pub invariant-loop-b : goal.invariant-loop-b
 invariant-loop-b l =
-    (l.b ≤ l.n) × (l.p ≡ l.b * (l.d * l.d)) × (length l.work ≡ l.d) × (length l.slots ≡ 32) × (projections_finite l.d l.bases l.v l.b ≡ true) × ((j : ℕ) → j < l.b → get_or l.slots j 0 ≡ face_slot l.d l.bases l.v j)
-
-abbrev pub decreases-loop-b : goal.decreases-loop-b
-decreases-loop-b l = l.n - l.b
+    (length l.work ≡ l.fn.g.d) × (length l.slots ≡ 32) × (projections_finite l.fn.g.d l.bases l.v l.b ≡ true) × ((j : ℕ) → j < l.b → get_or l.slots j 0 ≡ face_slot l.fn.g.d l.bases l.v j)

@@ -1,7 +1,5 @@
 -- `capi_sets::bbq_counting_or` meets its contract. Assumes nothing.
-use borrow.Author.Rules.{rules}
 use mathlib.Core.Path.{◌∙◌, sym}
-use borrow.Author.Tests.{not-true, not-false}
 use Rattle.capi_sets.proofs.Layers.{or_shape, or_length, or_done}
 use Rattle.capi_sets.proofs.bbq_counting_or.Goals as goal
 

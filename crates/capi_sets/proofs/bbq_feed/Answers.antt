@@ -1,7 +1,5 @@
 -- `capi_sets::bbq_feed` meets its contract. Assumes nothing.
-use borrow.Author.Rules.{rules}
 use mathlib.Core.Path.{sym, ◌∙◌}
-use borrow.Author.Tests.{not-true, not-false}
 use Rattle.capi_sets.specs.Lists.{outs}
 use Rattle.capi_sets.proofs.Lists.{room}
 use Rattle.capi_sets.proofs.Feeds.{feed_fits, feed_unequal, feed_room, feed_into_lem}

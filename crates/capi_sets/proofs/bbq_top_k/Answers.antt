@@ -1,7 +1,5 @@
 -- `capi_sets::bbq_top_k` meets its contract. Assumes nothing.
-use borrow.Author.Rules.{rules}
 use mathlib.Core.Path.{◌∙◌, sym}
-use borrow.Author.Tests.{not-true, not-false}
 use Rattle.capi_sets.proofs.Layers.{top_shape, top_length, top_done}
 use Rattle.capi_sets.proofs.bbq_top_k.Goals as goal
 

@@ -1,10 +1,9 @@
 -- `capi_vectors::bbq_distance` meets its contract. Assumes nothing.
-use Rattle.capi_vectors.proofs.Singles.{one_length}
-use Rattle.capi_vectors.proofs.Projections.{number_done}
+use Rattle.capi_vectors.proofs.Singles.{one_length, put_done}
 use Rattle.capi_vectors.proofs.bbq_distance.Goals as goal
 
 pub returns-then-out-ne1 : goal.returns-then-out-ne1
-returns-then-out-ne1 c = one_length _ _ c.args.out.now c.if-out-ne1.true
+returns-then-out-ne1 c = rw c.into.ensures (one_length _ _ c.args.out.now c.if-out-ne1.true)
 
 pub returns : goal.returns
-returns c = number_done _ _ c.args.out.now _ _ c.if-out-ne1.false c.distance-answer.ensures c.put_number.ensures
+returns c = put_done _ _ c.args.out.now _ _ _ c.if-out-ne1.false c.distance-answer.ensures c.put_one.ensures

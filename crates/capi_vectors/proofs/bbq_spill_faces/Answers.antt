@@ -5,19 +5,21 @@ use Rattle.capi_vectors.proofs.Projections.{dims_high, spill_dims, spill_length,
 use Rattle.capi_vectors.proofs.bbq_spill_faces.Goals as goal
 
 pub returns-then-not-dims_ok : goal.returns-then-not-dims_ok
-returns-then-not-dims_ok c = spill_dims c.args.spill c.args.projection.now c.args.out.now (sym c.dims_ok.ensures ∙ c.if-not-dims_ok.true)
+returns-then-not-dims_ok c = rw c.into.ensures (spill_dims c.args.spill c.args.projection.now c.args.out.now (sym c.dims_ok.ensures ∙ c.if-not-dims_ok.true))
 
 pub returns-then-out-projection : goal.returns-then-out-projection
-returns-then-out-projection c = spill_length c.args.spill c.args.projection.now c.args.out.now (sym c.dims_ok.ensures ∙ c.if-not-dims_ok.false) c.if-out-projection.true
+returns-then-out-projection c = rw c.into-then-out-projection.ensures (spill_length c.args.spill c.args.projection.now c.args.out.now (sym c.dims_ok.ensures ∙ c.if-not-dims_ok.false) c.if-out-projection.true)
 
-pub returns-then-spilled-ne0 : goal.returns-then-spilled-ne0
-returns-then-spilled-ne0 c = spill_refused c.args.spill c.args.projection.now c.args.out.now _ (sym c.dims_ok.ensures ∙ c.if-not-dims_ok.false) c.if-out-projection.false c.spill_faces-spilled.ensures c.if-spilled-ne0.true
-
-pub copy_faces-requires : goal.copy_faces-requires
-copy_faces-requires c =
-    let n = count_fits c.args.spill c.args.projection.now c.args.out.now _ c.spill_faces-spilled.ensures in
+pub copy_front-requires : goal.copy_front-requires
+copy_front-requires c =
+    let n = count_fits c.args.spill c.args.projection.now c.args.out.now _ _ c.in-Ok.ensures in
     let d = dims_high _ (sym c.dims_ok.ensures ∙ c.if-not-dims_ok.false) in
     (omega (arith, n, d), omega (arith, n))
 
-pub returns : goal.returns
-returns c = spill_done c.args.spill c.args.projection.now c.args.out.now _ _ (sym c.dims_ok.ensures ∙ c.if-not-dims_ok.false) c.if-out-projection.false c.spill_faces-spilled.ensures c.if-spilled-ne0.false c.copy_faces.ensures
+pub returns-in-Ok : goal.returns-in-Ok
+returns-in-Ok c =
+    spill_done c.args.spill c.args.projection.now c.args.out.now _ _ _ (sym c.dims_ok.ensures ∙ c.if-not-dims_ok.false) c.if-out-projection.false c.in-Ok.ensures c.copy_front.ensures
+
+pub returns-in-Err : goal.returns-in-Err
+returns-in-Err c =
+    rw c.into-in-Err.ensures (spill_refused c.args.spill c.args.projection.now c.args.out.now _ _ (sym c.dims_ok.ensures ∙ c.if-not-dims_ok.false) c.if-out-projection.false c.in-Err.ensures)

@@ -1,7 +1,6 @@
 -- `merging::share_nothing` meets its contract: the words passed share no id, so that the count is that of the words left. Assumes nothing.
-use mathlib.Core.Path.{◌≡◌, refl, sym, ◌∙◌}
+use mathlib.Core.Path.{◌≡◌, sym, ◌∙◌}
 use native.Mathlib.Omega.{arith}
-use borrow.Author.Rules.{rules}
 use borrow.Author.Tests.{eq-eqb, ne_eqb}
 use lib.Bits.{bit_and}
 use lib.Count.{ones}
@@ -13,18 +12,11 @@ use Rattle.bitmaps.proofs.Size.{ones_none}
 use Rattle.merging.proofs.Loops.{share_drop}
 use Rattle.merging.proofs.share_nothing.Goals as goal
 
-pub loop-i-init : goal.loop-i-init
-loop-i-init c = (search rules, refl)
-
-pub bounds-b-i : goal.bounds-b-i
-bounds-b-i c = omega (arith, c.requires, c.loop-i-test)
-
 pub returns-then-a-i-ne0 : goal.returns-then-a-i-ne0
 returns-then-a-i-ne0 c =
     let a = c.args.a.now in
     let b = c.args.b.now in
     let next = share_drop a b c.loop-i.i c.requires c.loop-i-test.true in
-    let left = c.loop-i.invariant.1 in
     sym (ne_eqb (size (shared a b)) 0 (λ e. c.if-a-i-ne0.true (ones_none (bit_and (get_or a c.loop-i.i 0) (get_or b c.loop-i.i 0)) (omega arith))))
 
 pub loop-i-preserved : goal.loop-i-preserved
@@ -33,15 +25,14 @@ loop-i-preserved c =
     let a = c.args.a.now in
     let b = c.args.b.now in
     let next = share_drop a b c.loop-i.i c.requires c.loop-i-test.true in
-    let left = c.loop-i.invariant.1 in
     let none : ones (bit_and (get_or a c.loop-i.i 0) (get_or b c.loop-i.i 0)) ≡ 0 = rw c.if-a-i-ne0.false in
-    (omega arith, omega arith)
+    omega arith
 
 pub returns : goal.returns
 unfolding size
 returns c =
     let a = c.args.a.now in
     let b = c.args.b.now in
-    let past : c.loop-i.i ≡ length (shared a b) = omega (arith, c.loop-i.invariant.0, c.loop-i-test, by_word_length bit_and a b) in
+    let past : c.loop-i.i ≡ length (shared a b) = omega (arith, by_word_length bit_and a b) in
     let none : size (drop c.loop-i.i (shared a b)) ≡ 0 = rw (past, drop-length) in
-    sym (eq-eqb (size (shared a b)) 0 (c.loop-i.invariant.1 ∙ none))
+    sym (eq-eqb (size (shared a b)) 0 (c.loop-i.invariant ∙ none))

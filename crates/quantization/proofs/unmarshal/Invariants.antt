@@ -1,6 +1,5 @@
 use mathlib.Core.Path.{◌≡◌}
-use Prim.Native.Nat.{◌-◌, ◌*◌, ◌≤◌}
-use lib.ListN.{length}
+use Prim.Native.Nat.{◌-◌, ◌*◌}
 use lib.Seq.{sets}
 use Rattle.paper.specs.Geometry.{comp_size}
 use Rattle.quantization.specs.Stored.{components}
@@ -9,7 +8,4 @@ use Rattle.quantization.proofs.unmarshal.Given as goal
 -- storing the components that are left gives what storing all of them gave
 abbrev pub invariant-loop-i : goal.invariant-loop-i
 invariant-loop-i l =
-    (l.i ≤ l.n) × (length l.out ≡ length l.initial.out) × (sets l.out l.i (components l.mode l.array (l.i * comp_size l.mode) (l.n - l.i)) ≡ sets l.initial.out 0 (components l.mode l.array 0 l.n))
-
-abbrev pub decreases-loop-i : goal.decreases-loop-i
-decreases-loop-i l = l.n - l.i
+    sets l.out l.i (components l.mode l.array (l.i * comp_size l.mode) (l.n - l.i)) ≡ sets l.initial.out 0 (components l.mode l.array 0 l.n)

@@ -54,7 +54,7 @@ returns-else-bits-ge-SIGN c =
     let s = shifted (goal.at.returns-else-bits-ge-SIGN c).Else-bits-ge-SIGN in
     is_root b _ c.rounded_root.result (omega arith) (omega arith)
     (ap (λ (x : ℕ). x * 2 ^ 149) (subnormal b t (omega arith) refl) ∙ sym s.same ∙ ap (λ (x : ℕ). x * 2 ^ (125 - (z - 8) + 24)) (unshifted (t * 2 ^ (z - 8)) s.small))
-    c.rounded_root.ensures.0 c.rounded_root.ensures.1
+    c.rounded_root.ensures.0 (rw c.from.ensures at c.rounded_root.ensures.1)
 
 pub returns-else-bits-eq-INFINITY : goal.returns-else-bits-eq-INFINITY
 returns-else-bits-eq-INFINITY c =
@@ -66,4 +66,4 @@ returns-else-bits-ge-SIGN-2 c =
     let b = c.args.bits in
     is_root b _ c.rounded_root-in-1-to-254.result (omega arith) (omega arith)
     (normal b (b / 8388608 % 256) (b % 8388608) (omega arith) refl (omega arith))
-    c.rounded_root-in-1-to-254.ensures.0 c.rounded_root-in-1-to-254.ensures.1
+    c.rounded_root-in-1-to-254.ensures.0 (rw (c.from-in-1-to-254.ensures, c.from-in-1-to-254-2.ensures) at c.rounded_root-in-1-to-254.ensures.1)

@@ -4,7 +4,7 @@ use mathlib.Core.List.{[]}
 use Rattle.sqrt.specs.RootOf.{root}
 use Rattle.sqrt.proofs.Floats.{root_zero}
 use Rattle.vector.specs.Fold.{fold2, zero32, dot_of, squares_of}
-use Rattle.vector.proofs.Answer.{one_answer}
+use Rattle.paper.proofs.Answering.{answered_once}
 use Rattle.vector.proofs.Vectors.{length_normalized, finite_normalized}
 use Rattle.vector.proofs.laws.Goals as goal
 
@@ -18,7 +18,7 @@ distance_of_none = root_zero
 
 pub returns : goal.returns
 returns c = record {
-  one_answer = λ r s num x. one_answer r s num x zero32;
+  one_answer = λ r s num x. answered_once r s num x zero32;
   dot_of_none = dot_of_none;
   distance_of_none = distance_of_none;
   length_normalized = length_normalized;

@@ -1,5 +1,4 @@
 -- `capi_sets::inner::feed_new` meets its contract. Assumes nothing.
-use borrow.Author.Rules.{rules}
 use Rattle.capi_sets.proofs.Feeds.{made_refused, made_fed}
 use Rattle.capi_sets.proofs.inner.feed_new.Goals as goal
 

@@ -1,4 +1,4 @@
-use Prim.Native.Nat.{◌≤◌, ◌-◌, ◌*◌}
+use Prim.Native.Nat.{◌-◌}
 use mathlib.Core.Path.{◌≡◌}
 use mathlib.Core.List.{◌++◌}
 use lib.ListN.{length}
@@ -7,7 +7,4 @@ use Rattle.counting_bitmap.proofs.inner.cardinalities.Given as goal
 
 abbrev pub invariant-loop-i : goal.invariant-loop-i
 invariant-loop-i l =
-    (l.i ≤ l.n) × (l.at ≡ l.i * l.w) × (length l.counts ≡ 32) × (l.counts ≡ counts_of l.i l.w l.layers ++ empty (32 - l.i))
-
-abbrev pub decreases-loop-i : goal.decreases-loop-i
-decreases-loop-i l = l.n - l.i
+    (length l.counts ≡ 32) × (l.counts ≡ counts_of l.i l.w l.layers ++ empty (32 - l.i))

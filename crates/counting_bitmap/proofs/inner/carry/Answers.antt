@@ -1,11 +1,10 @@
 -- `inner::carry` meets its contract: the first i words are done, and `any` holds a digit exactly if one of them is carried on. Assumes nothing.
-use borrow.Author.Rules.{rules}
 use Prim.Native.Nat.{◌<◌}
 use mathlib.Core.Bool.{not}
 use mathlib.Core.Path.{◌≡◌, refl, ap, sym, ◌∙◌}
 use native.Mathlib.Omega.{arith}
 use native.Mathlib.Numerals.{add-one}
-use lib.ListN.{length, take, length-set}
+use lib.ListN.{length, take}
 use lib.Seq.{take-length}
 use lib.Bits.{bit_and, bit_or}
 use Rattle.bitmaps.specs.Words.{size, is_empty, shared}
@@ -17,7 +16,7 @@ use Rattle.counting_bitmap.proofs.inner.carry.Goals as goal
 
 pub loop-i-init : goal.loop-i-init
 unfolding by_word_to size
-loop-i-init c = (search rules, refl, refl, refl, refl, refl)
+loop-i-init c = (refl, refl, refl)
 
 pub loop-i-preserved : goal.loop-i-preserved
 loop-i-preserved c =
@@ -28,14 +27,11 @@ loop-i-preserved c =
     let d : l.i < length cs = omega arith in
     let same : length ls ≡ length cs = c.requires in
     let long : l.i < length (shared ls cs) = rw (by_word_length bit_and ls cs) a in (
-      omega arith,
-      simp length-set (omega arith),
-      simp length-set (omega arith),
-      rw (l.invariant.3, l.invariant.4, by_word_to_at bit_or l.i ls cs, by_word_to_at flipped l.i cs ls, add-one) (by_word_to_suc bit_or l.i ls cs a d),
-      rw (l.invariant.3, l.invariant.4, by_word_to_at bit_or l.i ls cs, by_word_to_at flipped l.i cs ls, add-one) (by_word_to_suc flipped l.i cs ls d a),
+      rw (l.invariant.0, l.invariant.1, by_word_to_at bit_or l.i ls cs, by_word_to_at flipped l.i cs ls, add-one) (by_word_to_suc bit_or l.i ls cs a d),
+      rw (l.invariant.0, l.invariant.1, by_word_to_at bit_or l.i ls cs, by_word_to_at flipped l.i cs ls, add-one) (by_word_to_suc flipped l.i cs ls d a),
       any_more l.any l.i _ (shared ls cs) long
-          (rw (l.invariant.3, l.invariant.4, by_word_to_at bit_or l.i ls cs, by_word_to_at flipped l.i cs ls) (sym (by_word_at bit_and refl ls cs same l.i)))
-          l.invariant.5,
+          (rw (l.invariant.0, l.invariant.1, by_word_to_at bit_or l.i ls cs, by_word_to_at flipped l.i cs ls) (sym (by_word_at bit_and refl ls cs same l.i)))
+          l.invariant.2,
     )
 
 pub returns : goal.returns
@@ -48,7 +44,7 @@ returns c =
     let past' : l.i ≡ length cs = omega arith in
     let whole : take l.i (shared ls cs) ≡ shared ls cs = rw (past ∙ sym (by_word_length bit_and ls cs)) (take-length (shared ls cs)) in
     record {
-      united = l.invariant.3 ∙ rw past (by_word_to_all bit_or ls cs);
-      carry = l.invariant.4 ∙ rw past' (by_word_to_all flipped cs ls) ∙ by_word_flip bit_and ls cs same;
-      some = ap not (l.invariant.5 ∙ ap is_empty whole);
+      united = l.invariant.0 ∙ rw past (by_word_to_all bit_or ls cs);
+      carry = l.invariant.1 ∙ rw past' (by_word_to_all flipped cs ls) ∙ by_word_flip bit_and ls cs same;
+      some = ap not (l.invariant.2 ∙ ap is_empty whole);
     }

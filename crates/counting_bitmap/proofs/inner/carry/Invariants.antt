@@ -1,7 +1,7 @@
-use Prim.Native.Nat.{ℕ, ◌≤◌, ◌-◌}
+use Prim.Native.Nat.{ℕ}
 use mathlib.Core.Path.{◌≡◌}
 use lib.Dec.{eqb}
-use lib.ListN.{length, take}
+use lib.ListN.{take}
 use lib.Bits.{bit_and, bit_or}
 use Rattle.bitmaps.specs.Words.{is_empty, shared}
 use Rattle.bitmaps.proofs.Zip.{by_word_to}
@@ -13,9 +13,5 @@ flipped x y = bit_and y x
 
 abbrev pub invariant-loop-i : goal.invariant-loop-i
 invariant-loop-i l =
-    (l.i ≤ length l.initial.layer) × (length l.layer ≡ length l.initial.layer) × (length l.cur ≡ length l.initial.cur)
-    × (l.layer ≡ by_word_to bit_or l.i l.initial.layer l.initial.cur) × (l.cur ≡ by_word_to flipped l.i l.initial.cur l.initial.layer)
+    (l.layer ≡ by_word_to bit_or l.i l.initial.layer l.initial.cur) × (l.cur ≡ by_word_to flipped l.i l.initial.cur l.initial.layer)
     × (eqb l.any 0 ≡ is_empty (take l.i (shared l.initial.layer l.initial.cur)))
-
-abbrev pub decreases-loop-i : goal.decreases-loop-i
-decreases-loop-i l = length l.initial.layer - l.i

@@ -1,4 +1,4 @@
-use Prim.Native.Nat.{◌≤◌, ◌-◌, ◌*◌}
+use Prim.Native.Nat.{◌*◌}
 use mathlib.Core.Path.{◌≡◌}
 use lib.ListN.{length}
 use Rattle.counting_bitmap.specs.Layers.{merged, fallen}
@@ -6,8 +6,5 @@ use Rattle.counting_bitmap.proofs.inner.merge.Given as goal
 
 abbrev pub invariant-loop-i : goal.invariant-loop-i
 invariant-loop-i l =
-    (l.i ≤ l.n) × (l.at ≡ l.i * l.w) × (l.layers ≡ merged l.i l.w l.initial.layers l.initial.cur) × (l.cur ≡ fallen l.i l.w l.initial.layers l.initial.cur)
+    (l.layers ≡ merged l.i l.w l.initial.layers l.initial.cur) × (l.cur ≡ fallen l.i l.w l.initial.layers l.initial.cur)
     × (length l.layers ≡ l.n * l.w) × (length l.cur ≡ l.w)
-
-abbrev pub decreases-loop-i : goal.decreases-loop-i
-decreases-loop-i l = l.n - l.i

@@ -1,6 +1,6 @@
-use mathlib.Core.Path.{sym, ap}
+use mathlib.Core.Path.{sym, ap, ◌∙◌}
 use native.Mathlib.Omega.{arith}
-use Rattle.lines.specs.Lines.{told}
+use Rattle.lines.specs.Lines.{refused_line, told}
 use Rattle.lines.proofs.Texts.{then, put_as, decimal_length}
 use Rattle.lines.proofs.inner.put_told.Goals as goal
 
@@ -17,8 +17,8 @@ pub put_line-requires-in-Found : goal.put_line-requires-in-Found
 put_line-requires-in-Found c = omega (arith, c.put_number-p-in-Found.ensures.next, c.put_number-p-in-Found.auto.out, decimal_length c.in-Found.len, c.requires)
 
 pub returns-in-Refused : goal.returns-in-Refused
-unfolding told
-returns-in-Refused c = put_as (ap told (sym c.in-Refused.is)) c.put_line.ensures
+unfolding told refused_line
+returns-in-Refused c = put_as (ap refused_line c.into.ensures ∙ ap told (sym c.in-Refused.is)) c.put_line.ensures
 
 pub returns-in-Geometry : goal.returns-in-Geometry
 unfolding told

@@ -6,6 +6,6 @@ use Rattle.replay_drawing.proofs.inner.draw_basis.Goals as goal
 
 pub returns : goal.returns
 returns c = record {
-  basis = c.orthonormalize.ensures ∙ ap (λ (xs : List Float). orthonormalized c.args.d c.args.rounds xs c.args.out.now) c.draw-s.ensures.list;
-  place = c.draw-s.ensures.place;
+  basis = c.orthonormalize.ensures ∙ ap (λ (xs : List Float). orthonormalized c.args.d c.args.rounds xs c.args.out.now) c.draw.ensures.list;
+  place = c.draw.ensures.place;
 }

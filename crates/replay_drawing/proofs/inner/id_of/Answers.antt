@@ -7,6 +7,6 @@ pub returns-then-cap-eq0 : goal.returns-then-cap-eq0
 unfolding id_of
 returns-then-cap-eq0 c = rw (eq-eqb _ _ c.if-cap-eq0.true)
 
-pub returns : goal.returns
+pub returns-else-cap-eq0 : goal.returns-else-cap-eq0
 unfolding id_of
-returns c = rw (ne_eqb _ _ c.if-cap-eq0.false)
+returns-else-cap-eq0 c = rw (ne_eqb _ _ c.if-cap-eq0.false)

@@ -1,14 +1,15 @@
-use native.Mathlib.Omega.{arith}
+use Rattle.std.proofs.Common.{arith}
 use Rattle.result.proofs.Listings.{listed_past, listed_beyond, listed_here}
 use Rattle.result.proofs.ResultSet.result_at.Goals as goal
+use Rattle.result.proofs.ResultSet.result_at.Goals.{then-i-self-via-then-i-self, then-i-self-via-else-i-self+then-i-ge256}
 
-pub returns-then-self-i : goal.returns-then-self-i
-returns-then-self-i c = listed_past c.args.self c.args.i c.if-self-i.true
-
-pub returns-then-i-ge256 : goal.returns-then-i-ge256
-returns-then-i-ge256 c =
+pub returns-then-i-self : goal.returns-then-i-self
+returns-then-i-self c =
     let s = c.args.self in
-    listed_beyond s c.args.i (omega arith)
+    elim c.then-i-self.branch [
+      | then-i-self-via-then-i-self w ↦ listed_past s c.args.i (omega arith)
+      | then-i-self-via-else-i-self+then-i-ge256 w ↦ listed_beyond s c.args.i (omega arith)
+    ]
 
 pub returns : goal.returns
 returns c =

@@ -1,5 +1,4 @@
-use borrow.Author.Rules.{rules}
-use mathlib.Core.Path.{◌≡◌, refl, sym, ap, ◌∙◌}
+use mathlib.Core.Path.{◌≡◌, sym, ap, ◌∙◌}
 use Prim.Native.Nat.{ℕ}
 use native.Mathlib.Omega.{arith}
 use Rattle.result.specs.Ranked.{entry, larger}
@@ -7,29 +6,14 @@ use Rattle.result.specs.Places.{entries}
 use Rattle.result.proofs.Walk.{walked, walks_held, walks_found, walks_on, walks_last}
 use Rattle.result.proofs.inner.place_of.Goals as goal
 
-pub loop-insert-init : goal.loop-insert-init
-loop-insert-init c = (search rules, refl)
-
-pub offset_bounds-ids-insert : goal.offset_bounds-ids-insert
-offset_bounds-ids-insert c = omega arith
-
-pub bounds-ids-insert : goal.bounds-ids-insert
-bounds-ids-insert c = omega arith
-
 pub returns-then-ids-insert : goal.returns-then-ids-insert
 returns-then-ids-insert c =
     let l = c.loop-insert in
     let a = c.args in
     record {
       within = tt;
-      same = sym (walks_held larger (entry a.id a.similarity) a.len a.ids.now a.sims.now (omega arith) (omega arith) l.insert (omega arith) c.if-ids-insert.true) ∙ l.invariant.1;
+      same = sym (walks_held larger (entry a.id a.similarity) a.len a.ids.now a.sims.now (omega arith) (omega arith) l.insert (omega arith) c.if-ids-insert.true) ∙ l.invariant;
     }
-
-pub offset_bounds-sims-insert : goal.offset_bounds-sims-insert
-offset_bounds-sims-insert c = omega arith
-
-pub bounds-sims-insert : goal.bounds-sims-insert
-bounds-sims-insert c = omega arith
 
 pub returns-then-sims-insert : goal.returns-then-sims-insert
 returns-then-sims-insert c =
@@ -37,20 +21,14 @@ returns-then-sims-insert c =
     let a = c.args in
     record {
       within = omega arith;
-      same = sym (walks_found larger (entry a.id a.similarity) a.len a.ids.now a.sims.now (omega arith) (omega arith) l.insert (omega arith) c.if-ids-insert.false c.if-sims-insert.true) ∙ l.invariant.1;
+      same = sym (walks_found larger (entry a.id a.similarity) a.len a.ids.now a.sims.now (omega arith) (omega arith) l.insert (omega arith) c.if-ids-insert.false c.if-sims-insert.true) ∙ l.invariant;
     }
-
-pub overflow_add-insert : goal.overflow_add-insert
-overflow_add-insert c = omega arith
-
-pub loop-insert-smaller : goal.loop-insert-smaller
-loop-insert-smaller c = omega arith
 
 pub loop-insert-preserved : goal.loop-insert-preserved
 loop-insert-preserved c =
     let l = c.loop-insert in
     let a = c.args in
-    (search rules, sym (walks_on larger (entry a.id a.similarity) a.len a.ids.now a.sims.now (omega arith) (omega arith) l.insert (omega arith) c.if-ids-insert.false c.if-sims-insert.false) ∙ l.invariant.1)
+    sym (walks_on larger (entry a.id a.similarity) a.len a.ids.now a.sims.now (omega arith) (omega arith) l.insert (omega arith) c.if-ids-insert.false c.if-sims-insert.false) ∙ l.invariant
 
 pub returns : goal.returns
 returns c =
@@ -60,5 +38,5 @@ returns c =
     let m : l.insert ≡ a.len = omega arith in
     record {
       within = omega arith;
-      same = sym (walks_last larger e a.len a.ids.now a.sims.now (omega arith) (omega arith) a.len (omega arith)) ∙ ap (λ (j : ℕ). walked larger e j (entries a.len a.ids.now a.sims.now)) (sym m) ∙ l.invariant.1;
+      same = sym (walks_last larger e a.len a.ids.now a.sims.now (omega arith) (omega arith) a.len (omega arith)) ∙ ap (λ (j : ℕ). walked larger e j (entries a.len a.ids.now a.sims.now)) (sym m) ∙ l.invariant;
     }

@@ -1,38 +1,27 @@
 -- `result::inner::put` meets its contract. Assumes nothing.
-use mathlib.Core.Path.{refl, ◌∙◌}
-use native.Mathlib.Omega.{arith}
-use Prim.Native.Nat.{◌+◌}
+use Rattle.std.proofs.Common.{ℕ, ap, ◌∙◌, arith}
 use Rattle.result.specs.Ranked.{entry}
 use Rattle.result.specs.Puts.{set_of}
 use Rattle.result.specs.Sets.{entries_of}
-use Rattle.result.proofs.Puts.{shifts, put_room, put_full, put_none}
+use Rattle.result.proofs.Puts.{shifts, put_at, put_none}
 use Rattle.result.proofs.inner.put.Goals as goal
 
-pub returns-then-len-k : goal.returns-then-len-k
+pub returns-then-at-to : goal.returns-then-at-to
 unfolding entries_of
-returns-then-len-k c =
+returns-then-at-to c =
     let a = c.args in
     let s = set_of a.ids.now a.sims.now a.len a.k 1 in
     let e = entry a.id a.similarity in
     let p = c.requires in
-    shifts s a.at (a.len + 1) (a.len + 1) e _ _ c.push_id.ensures c.push_sim.ensures refl
-    ∙ put_room s (omega (arith, p.len_le_k, p.ids_len)) (omega (arith, p.len_le_k, p.ids_len)) a.at e p.len_le_k.2 c.if-len-k.true
+    shifts s a.at c.min-to.result e _ _ c.push.ensures c.push-then-at-to.ensures
+    ∙ put_at s (omega (arith, p.len_le_k, p.ids_len)) (omega (arith, p.len_le_k, p.ids_len)) a.at e p.len_le_k.2 c.min-to.result (omega (arith, c.min-to.ensures))
 
-pub returns-then-at-k : goal.returns-then-at-k
+pub returns-else-at-to : goal.returns-else-at-to
 unfolding entries_of
-returns-then-at-k c =
+returns-else-at-to c =
     let a = c.args in
     let s = set_of a.ids.now a.sims.now a.len a.k 1 in
     let e = entry a.id a.similarity in
     let p = c.requires in
-    shifts s a.at a.k a.k e _ _ c.push_id-then-at-k.ensures c.push_sim-then-at-k.ensures refl
-    ∙ put_full s (omega (arith, p.len_le_k, p.ids_len)) (omega (arith, p.len_le_k, p.ids_len)) a.at e p.len_le_k.2 (omega (arith, p.len_le_k, c.if-len-k.false))
-
-pub returns : goal.returns
-unfolding entries_of
-returns c =
-    let a = c.args in
-    let s = set_of a.ids.now a.sims.now a.len a.k 1 in
-    let e = entry a.id a.similarity in
-    let p = c.requires in
-    put_none s (omega (arith, p.len_le_k, p.ids_len)) (omega (arith, p.len_le_k, p.ids_len)) a.at e p.len_le_k.2 (omega (arith, p.len_le_k, c.if-len-k.false)) (omega (arith, p.len_le_k, c.if-len-k.false, c.if-at-k.false))
+    ap (λ (n : ℕ). set_of a.ids.now a.sims.now n a.k 1) (omega (arith, c.min-to.ensures, p.len_le_k))
+    ∙ put_none s (omega (arith, p.len_le_k, p.ids_len)) (omega (arith, p.len_le_k, p.ids_len)) a.at e p.len_le_k.2 (omega (arith, c.min-to.ensures, p.len_le_k)) (omega (arith, c.min-to.ensures, p.len_le_k))

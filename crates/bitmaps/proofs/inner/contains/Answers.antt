@@ -1,8 +1,0 @@
--- `inner::contains` meets its contract. Assumes nothing.
-use mathlib.Core.Path.{ap}
-use Prim.Native.Nat.{ℕ}
-use lib.Dec.{eqb}
-use Rattle.bitmaps.proofs.inner.contains.Goals as goal
-
-pub returns : goal.returns
-returns c = ap (λ (x : ℕ). eqb x 1) c.bit_of.ensures

@@ -1,15 +1,14 @@
 -- The cases of a search, as the calls meet them. Assumes nothing.
-use Prim.Native.Nat.{ℕ, ◌+◌, ◌-◌, ◌*◌, ◌≤◌, ◌<◌}
+use Prim.Native.Nat.{ℕ, ◌+◌, ◌-◌, ◌*◌, ◌≤◌}
 use native.Mathlib.Omega.{arith}
-use mathlib.Core.Path.{◌≡◌, refl, sym, ap, ◌∙◌}
-use mathlib.Core.Bool.{true, false}
+use mathlib.Core.Path.{◌≡◌, refl, ap, ◌∙◌}
+use mathlib.Core.Bool.{true}
 use mathlib.Core.List.{List}
 use lib.Dec.{eqb}
 use lib.Ieee.{Float}
 use lib.ListN.{length, take, drop}
 use borrow.Author.Tests.{ne_eqb, eqb-true}
 use Rattle.std.proofs.Common.{Some, None, Ok, Err}
-use Rattle.paper.specs.Choice.{refuse}
 use Rattle.paper.specs.Geometry.{Geo, GeoFacts, set_words, face_words}
 use Rattle.paper.specs.Refusals.{number_of}
 use Rattle.paper.specs.declared.Refusal.{Refusal}
@@ -21,7 +20,7 @@ use Rattle.index_memory.proofs.Places.{part_end, part_is}
 use Rattle.counting_bitmap.specs.Layers.{layer}
 use Rattle.counting_bitmap.specs.TopLayer.{top_of}
 use Rattle.counting_bitmap.proofs.Highest.{top_layer_is}
-use Rattle.result.specs.Sets.{Fed, answer, empty_set, fed_or}
+use Rattle.result.specs.Sets.{Fed, answer, empty_set}
 use Rattle.result.specs.declared.ResultSet.{ResultSet}
 use Rattle.backend_memory.specs.Ranking.{rank_of}
 use Rattle.candidates.specs.Gathering.{Query, target_finite, GatherIs, gathered}

@@ -124,7 +124,9 @@ pub fn find_nearest(
         ≡ search_of g bases.now (ix_of faces.now marks.now vectors.now) target.now query.k query.search_k query.spill
         (works work.old layers.old set.old) }
 {
-    check_search(bases, faces, marks, vectors, work, layers, set, target, g, query.k)?;
+    check_search(
+        bases, faces, marks, vectors, work, layers, set, target, g, query.k,
+    )?;
     let found = find_nearest_internal(
         bases, faces, marks, vectors, work, layers, set, target, g, query,
     );

@@ -21,12 +21,6 @@ use Rattle.adding.specs.Adding.{face_slot, added_ix, written_ix, lengths_ok, add
 use Rattle.adding.proofs.Shape.{shape_high}
 use Rattle.adding.proofs.Turns.{with_same}
 
--- a refusal keeps what there was
-pub kept_by : {A : Type 0} (r : Refusal) (new old : A) → pick (eqb (number_of r) 0) new old ≡ old
-kept_by r new old =
-    let low = number_low r in
-    rw (ne_eqb (number_of r) 0 (λ z. omega arith))
-
 -- ---- 6, 7 and the addition
 
 module _ (d n : ℕ) (bs v : List Float) where

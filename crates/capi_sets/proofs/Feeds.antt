@@ -63,20 +63,11 @@ module _ (s : ResultSet) (i : ℕ) (is : List ℕ) (ss : List Float) (d : ℕ) (
       let k : feed_all_of t (rest (i + 1) is ss) ≡ feed_all_of s (entry (get_or is i d) (get_or ss i z) ∷ rest (i + 1) is ss) = rw (← e) refl in
       k ∙ ap (feed_all_of s) (sym (rest_turn i is ss d z h l))
 
--- nothing is left
-pub feed_over : (s : ResultSet) (i : ℕ) (is : List ℕ) (ss : List Float) → length is ≤ i → answer 0 s ≡ feed_all_of s (rest i is ss)
-feed_over s i is ss h =
-    let n : length is - i ≡ 0 = omega arith in
-    sym (ap (λ (m : ℕ). feed_all_of s (entries m (drop i is) (drop i ss))) n)
-
 -- ---- the answers
 
 -- a refused answer says what it was refused for
 pub told_refused : (f : Fed) (r : Refusal) (s : ResultSet) → answer (number_of r) s ≡ f → fed_or f.set (Err r) ≡ f
 told_refused f r s e = ap (λ (n : ℕ). answer n f.set) (ap (λ (x : Fed). x.refusal) e)
-
-pub told_fed : (f : Fed) (s : ResultSet) → answer 0 s ≡ f → fed_or f.set (Ok s) ≡ f
-told_fed f s e = e
 
 -- ---- a new set, fed
 

@@ -9,7 +9,7 @@ use Rattle.paper.specs.Geometry.{Geo, geo_ok}
 use Rattle.index_memory.specs.Memory.{Ix, empty_ix, own_ok_ix, own_refusal, Done, done, empty_of}
 use Rattle.adding.specs.Adding.{Added, added, add_of}
 use Rattle.merging.specs.Merging.{merge_of}
-use Rattle.order_free.specs.Order.{Addition, Call, whats, WorkLent, step, run, swap, Deal, one, two, built, AllAccepted, calls, filled, FillArgs}
+use Rattle.order_free.specs.Order.{Addition, Call, whats, WorkLent, step, run, swap, Deal, one, two, built, AllAccepted, calls, filled}
 use Rattle.order_free.proofs.Orders.{run_is, puts, run_shuffle}
 use Rattle.order_free.proofs.Deals.{any_deal, puts_append}
 
@@ -75,7 +75,3 @@ module _ (g : Geo) (bs : List Float) where
       let t = both_deals good a b ne in
       let m : merge_of g x y ≡ merge_of g (run g bs (calls g (a ∷ [])) (empty_ix g)) (run g bs (calls g (b ∷ [])) (empty_ix g)) = ap₂ (λ (i j : Ix). merge_of g i j) p q in
       (ap (λ (d : Done). d.answer) (e ∙ m) ∙ t.1.0, ap (λ (d : Done). d.ix) (e ∙ m) ∙ t.0 ∙ sym f)
-
--- the same lengths again
-pub fill_again : {g : Geo} {lf lm lv lw lf' lm' lv' lw' : ℕ} → FillArgs g lf lm lv lw → lf' ≡ lf → lm' ≡ lm → lv' ≡ lv → lw' ≡ lw → FillArgs g lf' lm' lv' lw'
-fill_again f p q r s = rw (p, q, r, s) f

@@ -1,6 +1,6 @@
 -- `adding::check_and_write` meets its contract. Assumes nothing.
 use Rattle.std.proofs.Common.{ℕ, ◌*◌, ◌<◌, ◌≡◌, ◌∙◌, sym, subst, Err, rules}
-use Rattle.adding.proofs.Cases.{kept_by, late_six, late_seven, late_none, written_is}
+use Rattle.adding.proofs.Cases.{late_six, late_seven, late_none, written_is}
 use Rattle.adding.proofs.Accepted.{face_slot_low}
 use Rattle.adding.proofs.check_and_write.Goals as goal
 
@@ -10,21 +10,11 @@ returns-in_err-normalize_into-clause-told c =
     let e : c.from_residual.result ≡ Err c.in_err-normalize_into.field-0.0 = search rules in
     rw e (late_six a.g.d a.g.n a.bases.now a.v.now _ c.in_err-normalize_into.ensures.0 c.requires.finite)
 
-pub returns-in_err-normalize_into-clause-index : goal.returns-in_err-normalize_into-clause-index
-returns-in_err-normalize_into-clause-index c =
-    let e : c.from_residual.result ≡ Err c.in_err-normalize_into.field-0.0 = search rules in
-    rw e (sym (kept_by c.in_err-normalize_into.field-0.0 _ _))
-
 pub returns-in_err-slots-clause-told : goal.returns-in_err-slots-clause-told
 returns-in_err-slots-clause-told c =
     let a = c.args in
     let e : c.from_residual-in_err-slots.result ≡ Err c.in_err-slots.field-0.0 = search rules in
     rw e (late_seven a.g.d a.g.n a.bases.now a.v.now _ c.in_ok-normalize_into.ensures.0 c.in_err-slots.ensures.told)
-
-pub returns-in_err-slots-clause-index : goal.returns-in_err-slots-clause-index
-returns-in_err-slots-clause-index c =
-    let e : c.from_residual-in_err-slots.result ≡ Err c.in_err-slots.field-0.0 = search rules in
-    rw e (sym (kept_by c.in_err-slots.field-0.0 _ _))
 
 pub write-requires : goal.write-requires
 write-requires c =

@@ -10,9 +10,6 @@ returns-in_err-check_own-clause-told c =
     let e : c.from_residual.result ≡ Err c.in_err-check_own.field-0.0 = search rules in
     rw e (own_refused a.g a.id _ _ _ _ _ _ _ c.in_err-check_own.ensures.told)
 
-pub lent_lengths_ok-requires : goal.lent_lengths_ok-requires
-lent_lengths_ok-requires c = let f = c.in_ok-check_own.ensures.sized.facts in (f.d_high, f.n_high)
-
 pub returns-then-not-lent_lengths_ok-clause-told : goal.returns-then-not-lent_lengths_ok-clause-told
 returns-then-not-lent_lengths_ok-clause-told c =
     let a = c.args in

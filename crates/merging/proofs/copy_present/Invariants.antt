@@ -5,8 +5,7 @@ use Rattle.merging.specs.Merging.{copied}
 use Rattle.merging.proofs.copy_present.Given as goal
 
 abbrev pub invariant-loop-i : goal.invariant-loop-i
-invariant-loop-i l =
-    (l.at ≤ length l.marks * 64) × (length l.vectors ≡ length l.initial.vectors) × (l.vectors ≡ copied l.size l.at l.marks l.from l.initial.vectors)
+invariant-loop-i l = (l.at ≤ length l.marks * 64) × (l.vectors ≡ copied l.size l.at l.marks l.from l.initial.vectors)
 
 abbrev pub decreases-loop-i : goal.decreases-loop-i
 decreases-loop-i l = length l.marks * 64 - l.at

@@ -1,8 +1,5 @@
 -- `merging::merge` meets its contract. Assumes nothing.
-use Rattle.std.proofs.Common.{◌≤◌, ◌≡◌, ◌∙◌, sym, Err, rules}
-use native.Mathlib.Omega.{arith}
-use native.Mathlib.Nat.{mul-le-mul}
-use Rattle.paper.proofs.GeometryFacts.{comp_le}
+use Rattle.std.proofs.Common.{◌≡◌, ◌∙◌, sym, Err, rules}
 use Rattle.index_memory.specs.Memory.{ix_of}
 use Rattle.merging.proofs.Cases.{merge_first, merge_second, merge_shared, merge_done, second_sized, copy_args}
 use Rattle.merging.proofs.merge.Goals as goal
@@ -12,11 +9,6 @@ returns-in_err-check_own c =
     let a = c.args in
     let e : c.from_residual.result ≡ Err c.in_err-check_own.field-0.0 = search rules in
     rw e (merge_first a.g _ (ix_of a.faces2.now a.marks2.now a.vectors2.now) _ c.in_err-check_own.ensures.told)
-
-pub own_lengths_ok-requires : goal.own_lengths_ok-requires
-own_lengths_ok-requires c =
-    let f = c.in_ok-check_own.ensures.sized.facts in
-    (f.d_high, f.n_high, f.cap_high)
 
 pub returns-then-not-own_lengths_ok : goal.returns-then-not-own_lengths_ok
 returns-then-not-own_lengths_ok c =
@@ -38,11 +30,6 @@ returns-then-not-share_nothing c =
     let x = ix_of a.faces.now a.marks.now a.vectors.now in
     let y = ix_of a.faces2.now a.marks2.now a.vectors2.now in
     merge_shared a.g x y c.in_ok-check_own.ensures.told (sym c.own_lengths_ok.ensures ∙ c.if-not-own_lengths_ok.false) (sym c.share_nothing.ensures ∙ c.if-not-share_nothing.true)
-
-pub overflow_mul-size : goal.overflow_mul-size
-overflow_mul-size c =
-    let s : c.component_size.result ≤ 4 = rw c.component_size.ensures (comp_le _) in
-    omega (arith, mul-le-mul s c.in_ok-check_own.ensures.sized.facts.d_high)
 
 pub copy_present-requires : goal.copy_present-requires
 copy_present-requires c =

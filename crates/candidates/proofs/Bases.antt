@@ -5,12 +5,13 @@ use native.Mathlib.Numerals.{add-one}
 use mathlib.Core.Path.{◌≡◌, refl, ap, ◌∙◌}
 use mathlib.Core.Bool.{Bool, true, false}
 use mathlib.Core.List.{List, ◌∷◌}
+use Rattle.std.proofs.Common.{Ok, Err}
 use lib.Ieee.{Float}
 use lib.ListN.{length, take, drop, length-replicate}
-use Rattle.std.specs.Prelude.{Err}
 use Rattle.paper.specs.Choice.{refuse}
 use Rattle.paper.specs.Refusals.{number_of}
 use Rattle.paper.specs.declared.Refusal.{Refusal}
+use Rattle.paper.proofs.Answering.{number_low}
 use Rattle.index_memory.proofs.Places.{part_is}
 use Rattle.bitmaps.specs.Words.{size}
 use Rattle.bitmaps.proofs.Size.{size_le}
@@ -20,20 +21,16 @@ use Rattle.vector.specs.Finite.{all_finite}
 use Rattle.basis.specs.Project.{projected}
 use Rattle.basis.specs.Bases.{basis_at, projection_at}
 use Rattle.faces.specs.Slots.{slots}
-use Rattle.candidates.specs.Gathering.{joined, union_of, faces_at, Query, target_on, target_finite, union_at, unions_from, layers_of, dropped_of, BasisIs, GatherIs, Gathered, gathered}
-
--- a product, where the factors' names change
-pub times_by : (x a b a' b' : ℕ) → x ≡ a * b → a' ≡ a → b' ≡ b → x ≡ a' * b'
-times_by x a b a' b' e p q = rw (p, q) e
+use Rattle.candidates.specs.Gathering.{joined, union_of, faces_at, Query, target_on, target_finite, union_at, unions_from, layers_of, dropped_of, Gathered, gathered, BasisIs, GatherIs}
 
 -- whether 7 was answered
 pub was_finite : (b : Bool) (r : ℕ) → r ≡ refuse 7 b 0 → r ≡ 0 → b ≡ true
 was_finite true r e z = refl
 was_finite false r e z = absurd (omega arith)
 
-pub was_not : (b : Bool) (r : ℕ) → r ≡ refuse 7 b 0 → (r ≡ 0 → ⊥) → b ≡ false
-was_not true r e z = absurd (z e)
-was_not false r e z = refl
+pub was_not : (b : Bool) (r : Refusal) → number_of r ≡ refuse 7 b 0 → (b ≡ false) × (number_of r ≡ 7)
+was_not true r e = let low = number_low r in absurd (omega arith)
+was_not false r e = (refl, e)
 
 -- ---- the two ways out of one basis
 
@@ -46,11 +43,8 @@ pub few_of : (d : ℕ) (s : List ℕ) → Words s → length s ≤ 1024 → d �
 few_of d s w l e = omega (arith, size_le s w)
 
 module _ (n w picks : ℕ) (bs : List Float) (fs : List ℕ) (t : List Float) (ls ls' : List ℕ) where
-  pub basis_bad : all_finite (projected bs t) ≡ false → BasisIs n w picks bs fs t ls (record { refusal = 7; dropped = 0 }) ls'
-  basis_bad e = record { answer = rw e; few = omega arith; layers = λ (z : ◌≡◌ {A = ℕ} 7 0). absurd (omega arith); dropped = λ (z : ◌≡◌ {A = ℕ} 7 0). absurd (omega arith) }
-
   pub basis_good : (dr : ℕ) (u : List ℕ) → all_finite (projected bs t) ≡ true → dr ≤ 65536 → u ≡ union_of picks w fs (projected bs t)
-      → ls' ≡ merged n w ls u → dr ≡ size (fallen n w ls u) → BasisIs n w picks bs fs t ls (record { refusal = 0; dropped = dr }) ls'
+      → ls' ≡ merged n w ls u → dr ≡ size (fallen n w ls u) → BasisIs n w picks bs fs t ls (gathered (Ok dr)) ls'
   basis_good dr u e f eu el ed =
       record { answer = rw e; few = f; layers = λ z. el ∙ ap (merged n w ls) eu; dropped = λ z. ed ∙ ap (λ (x : List ℕ). size (fallen n w ls x)) eu }
 
@@ -93,14 +87,16 @@ module _ (q : Query) (n b : ℕ) (h : b < n) where
   dropped_more ls ls' e = rw (unions_more, e)
 
 module _ (q : Query) (n : ℕ) where
-  pub gather_stopped : (e : Refusal) (ls : List ℕ) → target_finite q n ≡ false → number_of e ≡ 7 → GatherIs n q (gathered (Err e)) ls
-  gather_stopped e ls f s = record { answer = rw f s; layers = λ (z : number_of e ≡ 0). absurd (omega arith); dropped = λ (z : number_of e ≡ 0). absurd (omega arith) }
+  -- a refusal that one of the bases told
+  pub gather_stopped : (r : Refusal) (ls : List ℕ) → target_finite q n ≡ false → number_of r ≡ 7 → GatherIs n q (gathered (Err r)) ls
+  gather_stopped r ls e h =
+      record { answer = rw e h; layers = λ z. absurd (omega arith); dropped = λ z. absurd (omega arith) }
 
   pub gather_ended : (b : ℕ) (ls : List ℕ) (total : ℕ) → n ≤ b → b ≤ n
       → target_finite q b ≡ true
       → merged_all n q.w ls (unions_from q (n - b) b) ≡ layers_of n q
       → total + dropped_all n q.w ls (unions_from q (n - b) b) ≡ dropped_of n q
-      → GatherIs n q (record { refusal = 0; dropped = total }) ls
+      → GatherIs n q (gathered (Ok total)) ls
   unfolding unions_from merged_all dropped_all
   gather_ended b ls total h l i m d =
       let z : n - b ≡ 0 = omega arith in

@@ -1,14 +1,14 @@
 -- Gathering: the union of each basis's picked face sets, merged into counting layers (01, "Store and search").
-use Rattle.std.specs.Prelude.{ℕ, zero, suc, ◌*◌, ◌≤◌, max, ◌≡◌, Bool, Result, List, [], ◌∷◌, Float, length, take, drop}
+use Rattle.std.specs.Prelude.{ℕ, zero, suc, ◌*◌, ◌≤◌, max, ◌≡◌, Bool, List, [], ◌∷◌, Float, Result, length, take, drop}
 use Rattle.paper.specs.Choice.{refuse}
+use Rattle.paper.specs.Refusals.{code_of, value_or}
+use Rattle.paper.specs.declared.Refusal.{Refusal}
 use Rattle.bitmaps.specs.Words.{has, union, size}
 use Rattle.counting_bitmap.specs.Layers.{empty, merged, fallen, merged_all, dropped_all}
 use Rattle.vector.specs.Finite.{all_finite}
 use Rattle.basis.specs.Project.{projected}
 use Rattle.basis.specs.Bases.{projection_at, projections_finite}
 use Rattle.faces.specs.Slots.{slots, HasFace}
-use Rattle.paper.specs.Refusals.{code_of, value_or}
-use Rattle.paper.specs.declared.Refusal.{Refusal}
 
 -- ---- one basis
 
@@ -73,12 +73,11 @@ dropped_of n q = dropped_all n q.w (empty (n * q.w)) (unions_from q n 0)
 
 -- ---- what the calls ask and give
 
--- a refusal's number, 0 for none, and how many ids fell off the last layer
+-- a refusal, 0 or 7, and how many ids fell off the last layer; a refused call drops 0
 pub record Gathered : Type 0 where
   pub refusal : ℕ
   pub dropped : ℕ
 
--- an answer as these two; a refused one has dropped nothing
 abbrev pub gathered : Result ℕ Refusal → Gathered
 gathered r = record { refusal = code_of r; dropped = value_or 0 r }
 

@@ -1,7 +1,7 @@
 // Gathering, for the search: each call says what it needs of the lengths.
 ghost use Rattle.std.specs.Prelude.{◌≡◌, length};
 ghost use Rattle.faces.specs.Slots.{slots};
-ghost use Rattle.candidates.specs.Gathering.{joined, query_of, SpillArgs, BasisArgs, BasisIs, GatherArgs, GatherIs, gathered};
+ghost use Rattle.candidates.specs.Gathering.{joined, query_of, gathered, SpillArgs, BasisArgs, BasisIs, GatherArgs, GatherIs};
 
 use paper::Refusal;
 
@@ -18,7 +18,7 @@ fn spill_into(faces: &[u64], work: &mut [f32], set: &mut [u64], picks: usize)
     }
 }
 
-// One basis: its union is merged into the layers. Answers 7, and leaves anything in the memories, if an entry of the projection is not finite.
+// One basis: its union is merged into the layers, and the answer is how many ids fell off the last. Refuses 7, and leaves anything in the memories, if an entry of the projection is not finite.
 fn gather_basis(
     basis: &[f32],
     faces: &[u64],
@@ -36,14 +36,14 @@ fn gather_basis(
     if !vector::all_finite(work) {
         return Err(Refusal::NoProjection);
     }
-    bitmaps::inner::clear(set);
+    set.fill(0);
     spill_into(faces, work, set, picks);
     let w = set.len();
     counting_bitmap::inner::merge(layers, n, w, set);
     Ok(bitmaps::inner::count(set))
 }
 
-// All n bases, from emptied layers: 7, or the layers as the unions make them. What is left in work and set is for the caller to clear.
+// All n bases, from emptied layers: 7, or the layers as the unions make them, and how many ids fell off the last. What is left in work and set is for the caller to clear.
 pub fn gather(
     bases: &[f32],
     faces: &[u64],
@@ -60,11 +60,11 @@ pub fn gather(
     let square = target.len() * target.len();
     let block = 2 * target.len() * set.len();
     let mut total: u32 = 0;
-    bitmaps::inner::clear(layers);
+    layers.fill(0);
     for b in 0..n {
         let p = b * square;
         let f = b * block;
-        let dropped = gather_basis(
+        total += gather_basis(
             &bases[p..p + square],
             &faces[f..f + block],
             target,
@@ -74,7 +74,6 @@ pub fn gather(
             n,
             picks,
         )?;
-        total += dropped;
     }
     Ok(total)
 }

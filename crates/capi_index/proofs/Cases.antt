@@ -3,16 +3,19 @@ use Prim.Native.Nat.{ℕ}
 use native.Mathlib.Omega.{arith}
 use mathlib.Core.Path.{◌≡◌, sym, ap, ◌∙◌}
 use mathlib.Core.Bool.{true, false}
-use mathlib.Core.List.{List, [], ◌∷◌, map}
+use mathlib.Core.List.{List, map}
 use lib.Ieee.{Float}
 use borrow.Author.Tests.{ne_eqb}
+use Rattle.std.proofs.Common.{Result, Ok, Err, IfOk, refl, subst}
 use Rattle.paper.specs.Geometry.{Geo, geo_ok}
+use Rattle.paper.specs.Refusals.{number_of}
+use Rattle.paper.specs.declared.Refusal.{Refusal}
+use Rattle.paper.proofs.Answering.{number_low}
 use Rattle.index_memory.specs.Memory.{Ix}
 use Rattle.bitmaps.specs.Walk.{ids_of}
 use Rattle.counting_bitmap.specs.Layers.{layer}
-use Rattle.result.specs.Sets.{empty_set}
+use Rattle.result.specs.Sets.{Fed, fed_or, empty_set}
 use Rattle.result.specs.declared.ResultSet.{ResultSet}
-use Rattle.result.specs.declared.Fed.{Fed}
 use Rattle.result.proofs.Answers.{form}
 use Rattle.result.proofs.Keeps.{Sound, empty_k}
 use Rattle.result.proofs.Grown.{all_k}
@@ -21,24 +24,22 @@ use Rattle.backend_memory.specs.Scan.{scan_of}
 use Rattle.backend_memory.proofs.Counts.{rank_fed, scan_ranks}
 use Rattle.backend_memory.proofs.Cases.{scan_sound, scan_accepted}
 use Rattle.candidates.specs.Gathering.{layers_of}
-use Rattle.vector_store.specs.Search.{Work, Searched, searched_by, search_of}
-use Rattle.vector_store.specs.declared.Nearest.{Nearest}
+use Rattle.vector_store.specs.Search.{Work, Searched, searched, told_of, searched_by, search_of}
+use Rattle.vector_store.specs.declared.Nearest.{Nearest as FoundList}
 use Rattle.vector_store.proofs.Answers.{search_accepted, search_sound}
-use Rattle.capi_vectors.specs.Single.{laid_over}
-use Rattle.capi_sets.specs.Lists.{Outs, outs, room_in, Listed, listed, into_fed, Fits}
-use Rattle.capi_index.specs.Searches.{into_nearest, scan_into, found, search_into}
+use Rattle.capi_sets.specs.Lists.{Outs, room_in, Listed, listed, put_set, Fits}
+use Rattle.capi_sets.proofs.Lists.{put_told}
+use Rattle.capi_index.specs.Searches.{put_nearest, into_nearest, scan_into, found, search_into}
 
 -- ---- a list into its arrays
 
-pub nearest_kept : (a : Nearest) (o : Outs) → (a.refusal ≡ 0 → ⊥) → listed a.refusal o ≡ into_nearest a o
+-- an answer in the arrays is what the definitions say of it
+nearest_told : (r : Result FoundList Refusal) (o : Outs) → put_nearest r o ≡ into_nearest (told_of r) o
 unfolding into_nearest
-nearest_kept a o h = rw (ne_eqb a.refusal 0 h)
-
-pub nearest_laid : (a : Nearest) (o : Outs) (is : List ℕ) (ss : List Float) (ts : List ℕ) → a.refusal ≡ 0
-    → is ≡ laid_over a.set.len a.set.ids o.ids → ss ≡ laid_over a.set.len a.set.sims o.scores → ts ≡ a.set.len ∷ a.set.checked ∷ a.dropped ∷ []
-    → listed 0 (outs is ss ts) ≡ into_nearest a o
-unfolding into_nearest
-nearest_laid a o is ss ts e p q r = rw e (λ i. listed 0 (outs (p i) (q i) (r i)))
+nearest_told (Ok a) o = refl
+nearest_told (Err r) o =
+    let low = number_low r in
+    rw (ne_eqb (number_of r) 0 (λ z. omega arith)) refl
 
 -- ---- an accepted answer has room in the arrays
 
@@ -66,8 +67,9 @@ module _ (g : Geo) (ms vs : List ℕ) (t : List Float) (k : ℕ) where
       fits (scan_of g ms vs t k).set k li ls (scan_sound g ms vs t k)
       (ap (λ (r : Fed). r.set.k) a ∙ scan_k g.mode k ms vs t (ap (λ (r : Fed). r.refusal) (sym a) ∙ e)) p q
 
-  pub scan_fits : (f : Fed) (li ls : ℕ) → f ≡ scan_of g ms vs t k → li ≡ k → ls ≡ k → f.refusal ≡ 0 → Fits f.set li ls
-  scan_fits f li ls e p q h = rw e (scan_fits_it li ls p q (ap (λ (r : Fed). r.refusal) (sym e) ∙ h))
+  pub scan_fits : (r : Result ResultSet Refusal) (li ls : ℕ) → fed_or (empty_set 0) r ≡ scan_of g ms vs t k → li ≡ k → ls ≡ k → IfOk r (λ (s : ResultSet). Fits s li ls)
+  scan_fits (Ok s) li ls e p q = subst (λ (x : ResultSet). Fits x li ls) (sym (ap (λ (f : Fed). f.set) e)) (scan_fits_it li ls p q (sym (ap (λ (f : Fed). f.refusal) e)))
+  scan_fits (Err r) li ls e p q = tt
 
   module _ (o : Outs) where
     pub scan_geometry : geo_ok g.d g.n g.cap g.mode ≡ false → listed 1 o ≡ scan_into g ms vs t k o
@@ -78,9 +80,14 @@ module _ (g : Geo) (ms vs : List ℕ) (t : List Float) (k : ℕ) where
     unfolding scan_into
     scan_room h r = rw (h, r)
 
-    pub scan_into_lem : (f : Fed) (l : Listed) → geo_ok g.d g.n g.cap g.mode ≡ true → room_in k 2 o ≡ true → f ≡ scan_of g ms vs t k → l ≡ into_fed f o → l ≡ scan_into g ms vs t k o
+    pub scan_into_lem : (r : Result ResultSet Refusal) (l : Listed) → geo_ok g.d g.n g.cap g.mode ≡ true → room_in k 2 o ≡ true → fed_or (empty_set 0) r ≡ scan_of g ms vs t k
+        → l ≡ put_set r o → l ≡ scan_into g ms vs t k o
     unfolding scan_into
-    scan_into_lem f l h r e q = rw (h, r, ← e) q
+    scan_into_lem r l h m e q = rw (h, m) (q ∙ put_told (scan_of g ms vs t k) r o (whole r e))
+      where
+        whole : (r : Result ResultSet Refusal) → fed_or (empty_set 0) r ≡ scan_of g ms vs t k → fed_or (scan_of g ms vs t k).set r ≡ scan_of g ms vs t k
+        whole (Ok s) e = e
+        whole (Err r) e = ap (λ (n : ℕ). record { refusal = n; set = (scan_of g ms vs t k).set }) (ap (λ (f : Fed). f.refusal) e)
 
 -- ---- a search
 
@@ -92,8 +99,11 @@ module _ (g : Geo) (bs : List Float) (ix : Ix) (t : List Float) (k sk spill : �
       fits (search_of g bs ix t k sk spill m).answer.set k li ls (search_sound g bs ix t k sk spill m)
       (ap (λ (s : ResultSet). s.k) a.ranked ∙ rank_k g.mode k (layer b.w (layers_of g.n b) a.at) ix.marks ix.vecs b.target a.good) p q
 
-  pub search_fits : (s : Searched) (li ls : ℕ) → s ≡ search_of g bs ix t k sk spill m → li ≡ k → ls ≡ k → s.answer.refusal ≡ 0 → Fits s.answer.set li ls
-  search_fits s li ls e p q h = rw e (search_fits_it li ls p q (ap (λ (r : Searched). r.answer.refusal) (sym e) ∙ h))
+  pub search_fits : (r : Result FoundList Refusal) (m' : Work) (li ls : ℕ) → searched (told_of r) m' ≡ search_of g bs ix t k sk spill m → li ≡ k → ls ≡ k
+      → IfOk r (λ (a : FoundList). Fits a.set li ls)
+  search_fits (Ok a) m' li ls e p q =
+      subst (λ (x : ResultSet). Fits x li ls) (sym (ap (λ (s : Searched). s.answer.set) e)) (search_fits_it li ls p q (sym (ap (λ (s : Searched). s.answer.refusal) e)))
+  search_fits (Err r) m' li ls e p q = tt
 
   module _ (o : Outs) where
     pub search_geometry : geo_ok g.d g.n g.cap g.mode ≡ false → found 1 m o ≡ search_into g bs ix t k sk spill m o
@@ -104,7 +114,9 @@ module _ (g : Geo) (bs : List Float) (ix : Ix) (t : List Float) (k sk spill : �
     unfolding search_into
     search_room h r = rw (h, r)
 
-    pub search_into_lem : (s : Searched) (l : Listed) → geo_ok g.d g.n g.cap g.mode ≡ true → room_in k 3 o ≡ true → s ≡ search_of g bs ix t k sk spill m
-        → l ≡ into_nearest s.answer o → found l.answer s.memory l.out ≡ search_into g bs ix t k sk spill m o
+    pub search_into_lem : (r : Result FoundList Refusal) (m' : Work) (l : Listed) → geo_ok g.d g.n g.cap g.mode ≡ true → room_in k 3 o ≡ true
+        → searched (told_of r) m' ≡ search_of g bs ix t k sk spill m → l ≡ put_nearest r o → found l.answer m' l.out ≡ search_into g bs ix t k sk spill m o
     unfolding search_into
-    search_into_lem s l h r e q = rw (h, r, ← e) (λ i. found (q i).answer s.memory (q i).out)
+    search_into_lem r m' l h n e q =
+        let p : l ≡ into_nearest (told_of r) o = q ∙ nearest_told r o in
+        rw (h, n, ← e) (λ i. found (p i).answer m' (p i).out)

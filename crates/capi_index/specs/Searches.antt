@@ -1,11 +1,14 @@
 -- A scan and a search with their lists in lent arrays. Definitions only.
-use Rattle.std.specs.Prelude.{ℕ, List, [], ◌∷◌, eqb, Float}
+use Rattle.std.specs.Prelude.{ℕ, List, [], ◌∷◌, Result, Ok, Err, eqb, Float}
 use Rattle.paper.specs.Choice.{pick}
 use Rattle.paper.specs.Geometry.{Geo, geo_ok}
+use Rattle.paper.specs.Refusals.{number_of}
+use Rattle.paper.specs.declared.Refusal.{Refusal}
 use Rattle.index_memory.specs.Memory.{Ix}
 use Rattle.backend_memory.specs.Scan.{scan_of}
-use Rattle.vector_store.specs.Search.{Work, search_of}
-use Rattle.vector_store.specs.declared.Nearest.{Nearest}
+use Rattle.result.specs.declared.ResultSet.{ResultSet}
+use Rattle.vector_store.specs.Search.{Nearest, Work, search_of}
+use Rattle.vector_store.specs.declared.Nearest.{Nearest as FoundList}
 use Rattle.capi_sets.specs.Lists.{Outs, room_in, laid, Listed, listed, into_fed}
 
 -- a scan: 1, then 2 for the arrays as well as for what the scan itself takes, then its other refusals
@@ -27,11 +30,17 @@ abbrev pub found : ℕ → Work → Outs → Found
 found num m o = record { answer = num; memory = m; out = o }
 
 -- told of a search: the list's length, checked, dropped
-abbrev pub three_of : Nearest → List ℕ
-three_of a = a.set.len ∷ a.set.checked ∷ a.dropped ∷ []
+abbrev pub three_of : ResultSet → ℕ → List ℕ
+three_of s dropped = s.len ∷ s.checked ∷ dropped ∷ []
 
+-- an answer in the arrays: the list is laid into them; a refusal keeps them
+abbrev pub put_nearest : Result FoundList Refusal → Outs → Listed
+put_nearest (Ok a) o = listed 0 (laid a.set (three_of a.set a.dropped) o)
+put_nearest (Err r) o = listed (number_of r) o
+
+-- the same of what an answer is by the definitions
 unfoldable pub into_nearest : Nearest → Outs → Listed
-into_nearest a o = listed a.refusal (pick (eqb a.refusal 0) (laid a.set (three_of a) o) o)
+into_nearest a o = listed a.refusal (pick (eqb a.refusal 0) (laid a.set (three_of a.set a.dropped) o) o)
 
 abbrev pub with_work : Work → Listed → Found
 with_work m l = found l.answer m l.out

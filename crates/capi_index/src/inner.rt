@@ -1,9 +1,10 @@
 // Writing a search's answer into the lent arrays.
-ghost use Rattle.std.specs.Prelude.{◌≡◌, ◌∷◌, [], length};
+ghost use Rattle.std.specs.Prelude.{◌≡◌, ◌∷◌, [], length, IfOk};
 ghost use Rattle.capi_sets.specs.Lists.{outs, listed, Fits};
-ghost use Rattle.capi_index.specs.Searches.{into_nearest};
+ghost use Rattle.capi_index.specs.Searches.{put_nearest};
 
-use capi_vectors::inner::copy_front;
+use capi_sets::inner::put_list;
+use paper::Refusal;
 use vector_store::Nearest;
 
 // Three numbers into three places.
@@ -16,18 +17,23 @@ pub fn tell_three(counts: &mut [u32], a: u32, b: u32, c: u32)
     counts[2] = c;
 }
 
-// The same for a search, with what it dropped told too.
-pub fn put_nearest(nearest: Nearest, ids: &mut [u32], scores: &mut [f32], counts: &mut [u32]) -> u32
-    requires { (nearest.refusal ≡ 0 → Fits nearest.set (length ids.old) (length scores.old)) × (length counts.old ≡ 3) }
-    ensures { listed result (outs ids.new scores.new counts.new) ≡ into_nearest nearest (outs ids.old scores.old counts.old) }
+// What a search found into the arrays, with its length, its count and what it dropped told; a refused search changes nothing. The answer is the refusal's number.
+pub fn put_nearest(
+    nearest: Result<Nearest, Refusal>,
+    ids: &mut [u32],
+    scores: &mut [f32],
+    counts: &mut [u32],
+) -> u32
+    requires fits { IfOk nearest (λ a. Fits a.set (length ids.old) (length scores.old)) }
+    requires three { length counts.old ≡ 3 }
+    ensures { listed result (outs ids.new scores.new counts.new) ≡ put_nearest nearest (outs ids.old scores.old counts.old) }
 {
-    if nearest.refusal != 0 {
-        return nearest.refusal;
+    match nearest {
+        Ok(Nearest { set, dropped }) => {
+            put_list(set, ids, scores);
+            tell_three(counts, set.len as u32, set.checked, dropped);
+            0
+        }
+        Err(refusal) => refusal.into(),
     }
-    let set = nearest.set;
-    let len = set.len;
-    copy_front(&set.ids, len, ids);
-    copy_front(&set.sims, len, scores);
-    tell_three(counts, len as u32, set.checked, nearest.dropped);
-    0
 }

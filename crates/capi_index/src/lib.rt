@@ -11,6 +11,9 @@ ghost use Rattle.vector_store.specs.Search.{works};
 ghost use Rattle.capi_sets.specs.Lists.{outs, listed};
 ghost use Rattle.capi_index.specs.Searches.{scan_into, found, search_into};
 
+use paper::{Geometry, Refusal};
+use vector_store::Query;
+
 mod inner;
 
 // Makes the index empty (index_memory::new_vector_store). Refuses 1, then 2, and changes nothing then.
@@ -26,7 +29,8 @@ pub extern "C" fn bbq_new(
 ) -> u32
     ensures { done result (ix_of faces.new marks.new vectors.new) ≡ empty_of (geo d n cap mode) (ix_of faces.old marks.old vectors.old) }
 {
-    index_memory::new_vector_store(faces, marks, vectors, d, n, cap, mode)
+    let g = Geometry { d, n, cap, mode };
+    paper::code(index_memory::new_vector_store(faces, marks, vectors, g))
 }
 
 // Puts a vector into the index under an id (adding::add_vector). Refuses 1, 2, 3, 5, 6, 7. A refused addition leaves the index
@@ -47,9 +51,9 @@ pub extern "C" fn bbq_add_vector(
 ) -> u32
     ensures { added result (ix_of faces.new marks.new vectors.new) work.new ≡ add_of (geo d n cap mode) bases.now id vector.now (ix_of faces.old marks.old vectors.old) work.old }
 {
-    adding::add_vector(
-        bases, faces, marks, vectors, work, vector, d, n, cap, mode, id,
-    )
+    let g = Geometry { d, n, cap, mode };
+    let answer = adding::add_vector(bases, faces, marks, vectors, work, vector, g, id);
+    paper::code(answer)
 }
 
 // Joins a second index to the first (merging::merge). Refuses 1, 2, 11, and changes nothing then.
@@ -68,9 +72,9 @@ pub extern "C" fn bbq_merge(
 ) -> u32
     ensures { done result (ix_of faces.new marks.new vectors.new) ≡ merge_of (geo d n cap mode) (ix_of faces.old marks.old vectors.old) (ix_of faces2.now marks2.now vectors2.now) }
 {
-    merging::merge(
-        faces, marks, vectors, faces2, marks2, vectors2, d, n, cap, mode,
-    )
+    let g = Geometry { d, n, cap, mode };
+    let answer = merging::merge(faces, marks, vectors, faces2, marks2, vectors2, g);
+    paper::code(answer)
 }
 
 // Ranks every present id (vector_store::full_table_scan) and writes the list: its ids and scores into the first places of two arrays of length k, its
@@ -91,13 +95,14 @@ pub extern "C" fn bbq_full_table_scan(
 ) -> u32
     ensures { listed result (outs ids.new scores.new counts.new) ≡ scan_into (geo d n cap mode) marks.now vectors.now target.now k (outs ids.old scores.old counts.old) }
 {
-    if !paper::geometry_ok(d, n, cap, mode) {
-        return paper::WRONG_GEOMETRY;
+    let g = Geometry { d, n, cap, mode };
+    if !g.is_ok() {
+        return Refusal::WrongGeometry.into();
     }
     if !capi_sets::inner::room_ok(k, 2, ids.len(), scores.len(), counts.len()) {
-        return paper::WRONG_LENGTH;
+        return Refusal::WrongLength.into();
     }
-    let fed = vector_store::full_table_scan(marks, vectors, target, d, n, cap, mode, k);
+    let fed = vector_store::full_table_scan(marks, vectors, target, g, k);
     capi_sets::inner::put_fed(fed, ids, scores, counts)
 }
 
@@ -129,15 +134,16 @@ pub extern "C" fn bbq_find_nearest(
         ≡ search_into (geo d n cap mode) bases.now (ix_of faces.now marks.now vectors.now) target.now k search_k spill
         (works work.old layers.old set.old) (outs ids.old scores.old counts.old) }
 {
-    if !paper::geometry_ok(d, n, cap, mode) {
-        return paper::WRONG_GEOMETRY;
+    let g = Geometry { d, n, cap, mode };
+    if !g.is_ok() {
+        return Refusal::WrongGeometry.into();
     }
     if !capi_sets::inner::room_ok(k, 3, ids.len(), scores.len(), counts.len()) {
-        return paper::WRONG_LENGTH;
+        return Refusal::WrongLength.into();
     }
+    let query = Query { k, search_k, spill };
     let nearest = vector_store::find_nearest(
-        bases, faces, marks, vectors, work, layers, set, target, d, n, cap, mode, k, search_k,
-        spill,
+        bases, faces, marks, vectors, work, layers, set, target, g, query,
     );
     inner::put_nearest(nearest, ids, scores, counts)
 }

@@ -9,14 +9,18 @@ use lib.Dec.{eqb, leb}
 use lib.Ieee.{Float}
 use lib.ListN.{length, drop, get_or}
 use borrow.Author.Tests.{eq-eqb, ne_eqb, leb-true}
+use Rattle.std.proofs.Common.{Result, Ok, Err, IfOk, subst}
 use Rattle.paper.specs.Choice.{pick}
+use Rattle.paper.specs.Refusals.{number_of}
+use Rattle.paper.specs.declared.Refusal.{Refusal}
+use Rattle.paper.proofs.Answering.{number_low}
 use Rattle.result.specs.Ranked.{Entry, entry}
 use Rattle.result.specs.Places.{entries}
-use Rattle.result.specs.Sets.{empty_set, answer, made_of, fed_set, feed_refusal, feed_of, feed_all_of}
+use Rattle.result.specs.Sets.{Fed, fed_or, empty_set, answer, made_of, fed_set, feed_refusal, feed_of, feed_all_of}
 use Rattle.result.specs.declared.ResultSet.{ResultSet}
-use Rattle.result.specs.declared.Fed.{Fed}
 use Rattle.result.proofs.Keeps.{fed_k, fed_within, empty_k, empty_len}
-use Rattle.capi_sets.specs.Lists.{Outs, room_in, Listed, listed, into_fed, feeding_of, feed_into, Fits}
+use Rattle.capi_sets.specs.Lists.{Outs, room_in, Listed, listed, put_set, feeding_of, feed_into, Fits}
+use Rattle.capi_sets.proofs.Lists.{put_told}
 
 -- ---- a turn
 
@@ -43,17 +47,20 @@ rest_turn i is ss d z h l =
     ap (λ (m : ℕ). entries m (drop i is) (drop i ss)) n ∙ pairs_turn i (length is - (i + 1)) is ss d z h l'
     ∙ ap (λ (j : ℕ). entry (get_or is i d) (get_or ss i z) ∷ entries (length is - (i + 1)) (drop j is) (drop j ss)) s
 
-module _ (s : ResultSet) (i : ℕ) (is : List ℕ) (ss : List Float) (d : ℕ) (z : Float) (h : i < length is) (l : length is ≡ length ss) (f : Fed) (e : f ≡ feed_of s (get_or is i d) (get_or ss i z)) where
+some : (r : Refusal) → number_of r ≡ 0 → ⊥
+some r z = let low = number_low r in omega arith
+
+module _ (s : ResultSet) (i : ℕ) (is : List ℕ) (ss : List Float) (d : ℕ) (z : Float) (h : i < length is) (l : length is ≡ length ss) where
   -- a refused feed ends it
-  pub feed_ends : (f.refusal ≡ 0 → ⊥) → f ≡ feed_all_of s (rest i is ss)
-  feed_ends h' =
-      let k : f ≡ feed_all_of s (entry (get_or is i d) (get_or ss i z) ∷ rest (i + 1) is ss) = rw (← e, ne_eqb f.refusal 0 h') in
+  pub feed_ends : (r : Refusal) → answer (number_of r) s ≡ feed_of s (get_or is i d) (get_or ss i z) → answer (number_of r) s ≡ feed_all_of s (rest i is ss)
+  feed_ends r e =
+      let k : answer (number_of r) s ≡ feed_all_of s (entry (get_or is i d) (get_or ss i z) ∷ rest (i + 1) is ss) = rw (← e, ne_eqb (number_of r) 0 (some r)) refl in
       k ∙ ap (feed_all_of s) (sym (rest_turn i is ss d z h l))
 
   -- an accepted one goes on with the set that it gave
-  pub feed_goes : f.refusal ≡ 0 → feed_all_of f.set (rest (i + 1) is ss) ≡ feed_all_of s (rest i is ss)
-  feed_goes h' =
-      let k : feed_all_of f.set (rest (i + 1) is ss) ≡ feed_all_of s (entry (get_or is i d) (get_or ss i z) ∷ rest (i + 1) is ss) = rw (← e, eq-eqb f.refusal 0 h') in
+  pub feed_goes : (t : ResultSet) → answer 0 t ≡ feed_of s (get_or is i d) (get_or ss i z) → feed_all_of t (rest (i + 1) is ss) ≡ feed_all_of s (rest i is ss)
+  feed_goes t e =
+      let k : feed_all_of t (rest (i + 1) is ss) ≡ feed_all_of s (entry (get_or is i d) (get_or ss i z) ∷ rest (i + 1) is ss) = rw (← e) refl in
       k ∙ ap (feed_all_of s) (sym (rest_turn i is ss d z h l))
 
 -- nothing is left
@@ -62,15 +69,27 @@ feed_over s i is ss h =
     let n : length is - i ≡ 0 = omega arith in
     sym (ap (λ (m : ℕ). feed_all_of s (entries m (drop i is) (drop i ss))) n)
 
+-- ---- the answers
+
+-- a refused answer says what it was refused for
+pub told_refused : (f : Fed) (r : Refusal) (s : ResultSet) → answer (number_of r) s ≡ f → fed_or f.set (Err r) ≡ f
+told_refused f r s e = ap (λ (n : ℕ). answer n f.set) (ap (λ (x : Fed). x.refusal) e)
+
+pub told_fed : (f : Fed) (s : ResultSet) → answer 0 s ≡ f → fed_or f.set (Ok s) ≡ f
+told_fed f s e = e
+
 -- ---- a new set, fed
 
-pub made_refused : (k : ℕ) (is : List ℕ) (ss : List Float) (m : Fed) → m ≡ made_of k → (m.refusal ≡ 0 → ⊥) → m ≡ feeding_of k is ss
+fed_refused : (k : ℕ) (is : List ℕ) (ss : List Float) (r : Refusal) (s : ResultSet) → answer (number_of r) s ≡ made_of k → answer (number_of r) s ≡ feeding_of k is ss
 unfolding feeding_of
-made_refused k is ss m e h = rw (← e, ne_eqb m.refusal 0 h)
+fed_refused k is ss r s e = rw (← e, ne_eqb (number_of r) 0 (some r)) refl
 
-pub made_fed : (k : ℕ) (is : List ℕ) (ss : List Float) (m r : Fed) → m ≡ made_of k → m.refusal ≡ 0 → r ≡ feed_all_of m.set (entries (length is) is ss) → r ≡ feeding_of k is ss
+pub made_refused : (k : ℕ) (is : List ℕ) (ss : List Float) (r : Refusal) (s : ResultSet) → answer (number_of r) s ≡ made_of k → fed_or (feeding_of k is ss).set (Err r) ≡ feeding_of k is ss
+made_refused k is ss r s e = told_refused (feeding_of k is ss) r s (fed_refused k is ss r s e)
+
+pub made_fed : (k : ℕ) (is : List ℕ) (ss : List Float) (s : ResultSet) → answer 0 s ≡ made_of k → feed_all_of s (entries (length is) is ss) ≡ feeding_of k is ss
 unfolding feeding_of
-made_fed k is ss m r e h q = rw (← e, eq-eqb m.refusal 0 h) q
+made_fed k is ss s e = rw (← e) refl
 
 -- ---- its list is within k
 
@@ -121,8 +140,10 @@ fits_it k is ss li ls p q e = by (leb k 256) refl e
         let m = leb-true k 256 h in
         record { small = omega (arith, w.len); ids = omega (arith, w.len); scores = omega (arith, w.len) }
 
-pub feed_fits : (k : ℕ) (is : List ℕ) (ss : List Float) (f : Fed) (li ls : ℕ) → f ≡ feeding_of k is ss → li ≡ k → ls ≡ k → f.refusal ≡ 0 → Fits f.set li ls
-feed_fits k is ss f li ls e p q h = rw e (fits_it k is ss li ls p q (ap (λ (r : Fed). r.refusal) (sym e) ∙ h))
+pub feed_fits : (k : ℕ) (is : List ℕ) (ss : List Float) (r : Result ResultSet Refusal) (li ls : ℕ) → fed_or (feeding_of k is ss).set r ≡ feeding_of k is ss → li ≡ k → ls ≡ k
+    → IfOk r (λ (s : ResultSet). Fits s li ls)
+feed_fits k is ss (Ok s) li ls e p q = subst (λ (x : ResultSet). Fits x li ls) (sym (ap (λ (f : Fed). f.set) e)) (fits_it k is ss li ls p q (sym (ap (λ (f : Fed). f.refusal) e)))
+feed_fits k is ss (Err r) li ls e p q = tt
 
 -- ---- the call
 
@@ -135,6 +156,7 @@ module _ (k : ℕ) (is : List ℕ) (ss : List Float) (o : Outs) where
   unfolding feed_into
   feed_room h r = rw (eq-eqb (length is) (length ss) h, r)
 
-  pub feed_into_lem : (f : Fed) (l : Listed) → length is ≡ length ss → room_in k 2 o ≡ true → f ≡ feeding_of k is ss → l ≡ into_fed f o → l ≡ feed_into k is ss o
+  pub feed_into_lem : (r : Result ResultSet Refusal) (l : Listed) → length is ≡ length ss → room_in k 2 o ≡ true → fed_or (feeding_of k is ss).set r ≡ feeding_of k is ss
+      → l ≡ put_set r o → l ≡ feed_into k is ss o
   unfolding feed_into
-  feed_into_lem f l h r e q = rw (eq-eqb (length is) (length ss) h, r, ← e) q
+  feed_into_lem r l h m e q = rw (eq-eqb (length is) (length ss) h, m) (q ∙ put_told (feeding_of k is ss) r o e)

@@ -2,26 +2,27 @@
 use Prim.Native.Nat.{ℕ}
 use mathlib.Core.Path.{◌≡◌}
 use mathlib.Core.Bool.{true}
-use mathlib.Core.List.{List, [], ◌∷◌}
 use lib.Dec.{eqb}
-use lib.Ieee.{Float}
 use borrow.Author.Tests.{ne_eqb, eqb-true}
+use Rattle.std.proofs.Common.{Result, Ok, Err, refl, ap, arith}
+use Rattle.paper.specs.Refusals.{number_of}
+use Rattle.paper.specs.declared.Refusal.{Refusal}
+use Rattle.paper.proofs.Answering.{number_low}
 use Rattle.paper.proofs.Choice.{and_l, and_r}
-use Rattle.result.specs.declared.Fed.{Fed}
-use Rattle.capi_vectors.specs.Single.{laid_over}
-use Rattle.capi_sets.specs.Lists.{Outs, outs, room_ok, listed, into_fed}
+use Rattle.result.specs.Sets.{Fed, fed_or}
+use Rattle.result.specs.declared.ResultSet.{ResultSet}
+use Rattle.capi_sets.specs.Lists.{Outs, room_ok, put_set, into_fed}
 
 -- ---- a list into its arrays
 
-pub fed_kept : (f : Fed) (o : Outs) → (f.refusal ≡ 0 → ⊥) → listed f.refusal o ≡ into_fed f o
+-- an answer in the arrays is what the definitions say of it
+pub put_told : (f : Fed) (r : Result ResultSet Refusal) (o : Outs) → fed_or f.set r ≡ f → put_set r o ≡ into_fed f o
 unfolding into_fed
-fed_kept f o h = rw (ne_eqb f.refusal 0 h)
-
-pub fed_laid : (f : Fed) (o : Outs) (is : List ℕ) (ss : List Float) (ts : List ℕ) → f.refusal ≡ 0
-    → is ≡ laid_over f.set.len f.set.ids o.ids → ss ≡ laid_over f.set.len f.set.sims o.scores → ts ≡ f.set.len ∷ f.set.checked ∷ []
-    → listed 0 (outs is ss ts) ≡ into_fed f o
-unfolding into_fed
-fed_laid f o is ss ts e p q r = rw e (λ i. listed 0 (outs (p i) (q i) (r i)))
+put_told f (Ok s) o e = rw (← e) refl
+put_told f (Err r) o e =
+    let low = number_low r in
+    let n : number_of r ≡ f.refusal = ap (λ (x : Fed). x.refusal) e in
+    rw (← n, ne_eqb (number_of r) 0 (λ z. omega arith)) refl
 
 -- ---- the arrays' room
 

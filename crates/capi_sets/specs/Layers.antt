@@ -1,26 +1,13 @@
 -- The calls on counting layers, with their answers in lent places. Definitions only.
-use Rattle.std.specs.Prelude.{ℕ, List, [], ◌∷◌, eqb, length}
+use Rattle.std.specs.Prelude.{ℕ, List, eqb, length}
 use Rattle.paper.specs.Choice.{pick}
 use Rattle.paper.specs.Geometry.{set_words}
+use Rattle.paper.specs.Refusals.{unless_refused}
 use Rattle.bitmaps.specs.Words.{size}
-use Rattle.bitmaps.specs.Answers.{unless_refused}
 use Rattle.counting_bitmap.specs.Layers.{merged, fallen}
 use Rattle.counting_bitmap.specs.TopLayer.{top_of}
 use Rattle.counting_bitmap.specs.Answers.{layers_ok, layers_fault, merge_fault, top_fault, top_number}
-use Rattle.counting_bitmap.specs.declared.Merged.{Merged}
-use Rattle.counting_bitmap.specs.declared.Merged.TheVariants as Mergeds
-use Rattle.counting_bitmap.specs.declared.Chosen.{Chosen}
-use Rattle.counting_bitmap.specs.declared.Chosen.TheVariants as Chosens
 use Rattle.capi_vectors.specs.Single.{Single, single, kept, into_one}
-
--- each answer of the crate below, in its place: what it holds, or the refusal's number and the place as it was
-abbrev pub dropped_put : Merged → List ℕ → Single ℕ
-dropped_put (Mergeds.Dropped x) ys = single 0 (x ∷ [])
-dropped_put (Mergeds.Refused num) ys = single num ys
-
-abbrev pub layer_put : Chosen → List ℕ → Single ℕ
-layer_put (Chosens.Layer i) ys = single 0 (i ∷ [])
-layer_put (Chosens.Refused num) ys = single num ys
 
 -- ---- merging a set into layers
 

@@ -1,10 +1,11 @@
 -- Calls that write a list into lent arrays: ids, scores, and what is told beside them (01, "Refusal numbers"). Definitions only.
-use Rattle.std.specs.Prelude.{ℕ, ◌≤◌, Bool, List, [], ◌∷◌, eqb, Float, length}
+use Rattle.std.specs.Prelude.{ℕ, ◌≤◌, Bool, List, [], ◌∷◌, eqb, Float, length, Result, Ok, Err}
 use Rattle.paper.specs.Choice.{◌and◌, pick}
+use Rattle.paper.specs.Refusals.{number_of}
+use Rattle.paper.specs.declared.Refusal.{Refusal}
 use Rattle.result.specs.Places.{entries}
-use Rattle.result.specs.Sets.{made_of, feed_all_of}
+use Rattle.result.specs.Sets.{Fed, made_of, feed_all_of}
 use Rattle.result.specs.declared.ResultSet.{ResultSet}
-use Rattle.result.specs.declared.Fed.{Fed}
 use Rattle.capi_vectors.specs.Single.{laid_over}
 
 -- the lent arrays
@@ -41,7 +42,12 @@ listed num o = record { answer = num; out = o }
 abbrev pub two_of : ResultSet → List ℕ
 two_of s = s.len ∷ s.checked ∷ []
 
--- an accepted set is laid into the arrays; a refusal keeps them
+-- an answer in the arrays: the set is laid into them; a refusal keeps them
+abbrev pub put_set : Result ResultSet Refusal → Outs → Listed
+put_set (Ok s) o = listed 0 (laid s (two_of s) o)
+put_set (Err r) o = listed (number_of r) o
+
+-- the same of what an answer is by the definitions
 unfoldable pub into_fed : Fed → Outs → Listed
 into_fed f o = listed f.refusal (pick (eqb f.refusal 0) (laid f.set (two_of f.set) o) o)
 

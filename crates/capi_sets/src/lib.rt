@@ -7,6 +7,9 @@ ghost use Rattle.capi_vectors.specs.Single.{single};
 ghost use Rattle.capi_sets.specs.Layers.{counted_in, or_into, top_into};
 ghost use Rattle.capi_sets.specs.Lists.{outs, listed, feed_into};
 
+use capi_vectors::inner::put_one;
+use paper::Refusal;
+
 pub mod inner;
 
 // Merges a set into counting layers (counting_bitmap::or); the dropped count in dropped[0]. Refuses 1, then 2 (also for a `dropped` that isn't of length 1),
@@ -22,13 +25,13 @@ pub extern "C" fn bbq_counting_or(
     ensures { counted_in result layers.new set.new dropped.new ≡ or_into cap n layers.old set.old dropped.old }
 {
     if !counting_bitmap::inner::layers_ok(cap, n) {
-        return paper::WRONG_GEOMETRY;
+        return Refusal::WrongGeometry.into();
     }
     if dropped.len() != 1 {
-        return paper::WRONG_LENGTH;
+        return Refusal::WrongLength.into();
     }
     let answer = counting_bitmap::or(cap, n, layers, set);
-    inner::put_dropped(answer, dropped)
+    put_one(answer, dropped)
 }
 
 // The number of the highest layer with at least search_k ids, counted from 0, in layer[0] (counting_bitmap::top_k_number). Refuses 1, 2 (also for a `layer`
@@ -44,13 +47,13 @@ pub extern "C" fn bbq_top_k(
     ensures { single result layer.new ≡ top_into cap n layers.now search_k layer.old }
 {
     if !counting_bitmap::inner::layers_ok(cap, n) {
-        return paper::WRONG_GEOMETRY;
+        return Refusal::WrongGeometry.into();
     }
     if layer.len() != 1 {
-        return paper::WRONG_LENGTH;
+        return Refusal::WrongLength.into();
     }
     let answer = counting_bitmap::top_k_number(cap, n, layers, search_k);
-    inner::put_layer(answer, layer)
+    put_one(answer, layer)
 }
 
 // A new result set with k, fed the pairs of two arrays in turn (result::ResultSet::new and feed), and written as a list: ids and scores into the first places of
@@ -68,10 +71,10 @@ pub extern "C" fn bbq_feed(
     ensures { listed result (outs out_ids.new out_scores.new counts.new) ≡ feed_into k ids.now scores.now (outs out_ids.old out_scores.old counts.old) }
 {
     if ids.len() != scores.len() {
-        return paper::WRONG_LENGTH;
+        return Refusal::WrongLength.into();
     }
     if !inner::room_ok(k, 2, out_ids.len(), out_scores.len(), counts.len()) {
-        return paper::WRONG_LENGTH;
+        return Refusal::WrongLength.into();
     }
     let fed = inner::feed_new(k, ids, scores);
     inner::put_fed(fed, out_ids, out_scores, counts)

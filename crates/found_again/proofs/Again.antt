@@ -19,8 +19,7 @@ use Rattle.faces.specs.Slots.{slot_of, slots}
 use Rattle.faces.proofs.Slots.{picks_some}
 use Rattle.candidates.specs.Gathering.{faces_at, face_set, in_any, union_of, Query, target_finite, union_at, unions_from, layers_of}
 use Rattle.candidates.proofs.Unions.{face_set_has, union_has, layer_counts}
-use Rattle.vector_store.specs.Search.{searched_by, AcceptedSearch}
-use Rattle.vector_store.specs.declared.Nearest.{Nearest}
+use Rattle.vector_store.specs.Search.{Nearest, searched_by, AcceptedSearch}
 use Rattle.vector_store.proofs.Answers.{chosen_highest}
 use Rattle.adding.specs.Adding.{face_slot, added_ix, add_of}
 use Rattle.adding.proofs.Accepted.{length_projection, face_slot_low, accepted_shape, accepted_finite}

@@ -7,8 +7,7 @@ use Rattle.index_memory.specs.Memory.{Ix, face_bit}
 use Rattle.bitmaps.specs.Words.{has}
 use Rattle.counting_bitmap.specs.Layers.{layer}
 use Rattle.candidates.specs.Gathering.{Query, target_finite, union_at, layers_of}
-use Rattle.vector_store.specs.Search.{searched_by, AcceptedSearch}
-use Rattle.vector_store.specs.declared.Nearest.{Nearest}
+use Rattle.vector_store.specs.Search.{Nearest, searched_by, AcceptedSearch}
 use Rattle.adding.specs.Adding.{face_slot, add_of}
 use Rattle.merging.specs.Merging.{merge_of}
 

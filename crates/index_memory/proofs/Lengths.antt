@@ -1,17 +1,17 @@
 -- What the tests of lengths give. Assumes nothing.
 use Prim.Native.Nat.{ℕ}
-use mathlib.Core.Path.{◌≡◌, refl, sym, ◌∙◌}
+use mathlib.Core.Path.{◌≡◌, refl}
 use mathlib.Core.Bool.{Bool, true, false}
 use native.Mathlib.Omega.{arith}
-use borrow.Author.Tests.{eqb-true, eq-eqb, ne_eqb}
+use borrow.Author.Tests.{eqb-true, eq-eqb}
 use lib.Dec.{eqb}
-use lib.ListN.{length, length-replicate}
+use lib.ListN.{length-replicate}
 use Rattle.paper.specs.Choice.{◌and◌, refuse}
 use Rattle.paper.specs.Geometry.{Geo, geo_ok, set_words, bases_len, face_words, vector_bytes}
 use Rattle.bitmaps.specs.Words.{empty}
 use Rattle.paper.proofs.Choice.{and_l, and_r}
 use Rattle.paper.proofs.GeometryFacts.{geo_facts}
-use Rattle.index_memory.specs.Memory.{Ix, ix_of, store_ok, own_ok, own_ok_ix, bases_ok, own_refusal, empty_ix, done, empty_of, StoreSized, Sized}
+use Rattle.index_memory.specs.Memory.{ix_of, store_ok, own_ok, own_ok_ix, bases_ok, own_refusal, empty_ix, StoreSized, Sized}
 
 pub store_sized : (d cap mode lm lv : ℕ) → store_ok d cap mode lm lv ≡ true → StoreSized d cap mode lm lv
 unfolding store_ok
@@ -82,14 +82,3 @@ unfolding empty_ix
 empty_own g =
     own_good g.d g.n g.cap g.mode _ _ _ (length-replicate (face_words g.d g.n g.cap) 0) (length-replicate (set_words g.cap) 0)
     (length-replicate (vector_bytes g.d g.cap g.mode) 0)
-
--- ---- the ways out of making empty
-
-module _ (g : Geo) (ix : Ix) where
-  pub empty_refused : (r : ℕ) → r ≡ own_refusal g.d g.n g.cap g.mode (length ix.faces) (length ix.marks) (length ix.vecs) → (r ≡ 0 → ⊥) → done r ix ≡ empty_of g ix
-  unfolding empty_of
-  empty_refused r e h = simp (← e, ne_eqb r 0 h)
-
-  pub empty_done : (r : ℕ) (ix' : Ix) → r ≡ own_refusal g.d g.n g.cap g.mode (length ix.faces) (length ix.marks) (length ix.vecs) → r ≡ 0 → ix' ≡ empty_ix g → done 0 ix' ≡ empty_of g ix
-  unfolding empty_of
-  empty_done r ix' e z i = rw (sym e ∙ z, i)

@@ -1,4 +1,3 @@
 pub mod Lengths
 pub mod Places
-pub mod Fill
 pub mod Stores

@@ -1,13 +1,13 @@
 -- What a search refuses, what it answers, and what it leaves in the work memories (01, "Refusal numbers" and "Store and search").
 use Rattle.std.specs.Prelude.{ℕ, ◌*◌, ◌≤◌, ◌≡◌, Bool, true, Option, Some, None, Result, Ok, Err, List, leb, eqb, Float, length}
 use Rattle.paper.specs.Choice.{◌and◌, pick, refuse}
-use Rattle.paper.specs.Geometry.{Geo, geo_ok, set_words}
-use Rattle.index_memory.specs.Memory.{Ix, own_ok, bases_ok, slot_bytes, float_zeros}
+use Rattle.paper.specs.Geometry.{Geo, GeoFacts, geo_ok, set_words, bases_len, face_words, vector_bytes}
+use Rattle.paper.specs.Refusals.{number_of}
+use Rattle.paper.specs.declared.Refusal.{Refusal}
+use Rattle.index_memory.specs.Memory.{Ix, own_ok, bases_ok, float_zeros}
 use Rattle.bitmaps.specs.Words.{empty}
 use Rattle.counting_bitmap.specs.Layers.{layer}
 use Rattle.counting_bitmap.specs.TopLayer.{top_of}
-use Rattle.paper.specs.Refusals.{number_of}
-use Rattle.paper.specs.declared.Refusal.{Refusal}
 use Rattle.result.specs.Sets.{Fed, empty_set}
 use Rattle.result.specs.declared.ResultSet.{ResultSet}
 use Rattle.vector.specs.Finite.{all_finite}
@@ -117,26 +117,16 @@ pub record AcceptedSearch (n mode k sk : ℕ) (q : Query) (ms vs : List ℕ) (r 
   pub ranked : r.set ≡ (rank_of mode k (layer q.w (layers_of n q) at) ms vs q.target).set
   pub dropped : r.dropped ≡ 0
 
--- ---- what the inner calls ask of lengths
+-- ---- what a search past refusal 5 has of the lengths
 
-pub record TopArgs (n w mode k ll lm lv lt : ℕ) : Type 0 where
+pub record FindArgs (g : Geo) (k lb lf lm lv lt lw ll ls : ℕ) : Type 0 where
+  pub facts : GeoFacts g.d g.n g.cap g.mode
   pub k_high : k ≤ 256
-  pub w_high : w ≤ 1024
-  pub layers : ll ≡ n * w
-  pub marks : lm ≡ w
-  pub d_low : 1 ≤ lt
-  pub d_high : lt ≤ 1024
-  pub vectors : lv ≡ w * 64 * slot_bytes lt mode
-
-pub record FindArgs (n mode k lb lf lm lv lt lw ll ls : ℕ) : Type 0 where
-  pub n_high : n ≤ 32
-  pub k_high : k ≤ 256
-  pub w_high : ls ≤ 1024
-  pub d_low : 1 ≤ lt
-  pub d_high : lt ≤ 1024
-  pub bases : lb ≡ n * (lt * lt)
-  pub faces : lf ≡ n * (2 * lt * ls)
-  pub marks : lm ≡ ls
-  pub vectors : lv ≡ ls * 64 * slot_bytes lt mode
-  pub work : lw ≡ lt
-  pub layers : ll ≡ n * ls
+  pub bases : lb ≡ bases_len g.d g.n
+  pub faces : lf ≡ face_words g.d g.n g.cap
+  pub marks : lm ≡ set_words g.cap
+  pub vectors : lv ≡ vector_bytes g.d g.cap g.mode
+  pub target : lt ≡ g.d
+  pub work : lw ≡ g.d
+  pub layers : ll ≡ g.n * set_words g.cap
+  pub set : ls ≡ set_words g.cap

@@ -6,14 +6,13 @@ ghost use Rattle.paper.specs.Refusals.{code_of};
 ghost use Rattle.index_memory.specs.Memory.{ix_of};
 ghost use Rattle.result.specs.Sets.{empty_set, fed_or};
 ghost use Rattle.backend_memory.specs.Scan.{scan_of};
-ghost use Rattle.candidates.specs.Gathering.{query_of};
-ghost use Rattle.vector_store.specs.Search.{told_of, top_rank_of, found_of, works, searched, cleared, work_ok, search_shape, search_of, TopArgs, FindArgs};
+ghost use Rattle.vector_store.specs.Search.{told_of, found_of, works, searched, searched_by, work_ok, search_refusal, search_of, FindArgs};
 ghost use Rattle.vector_store.specs.Laws.{Laws};
 
 use paper::{Geometry, Refusal};
 use result::ResultSet;
 
-/// What a search asks: a list of at most k, the ids of the highest layer that has search_k of them, and spill + 1 faces a basis.
+/// What a search asks for: a list of at most `k`, from the highest layer with `search_k` ids or more, and `spill` faces of a basis beyond the first.
 #[derive(Clone, Copy, Debug, PartialEq, Eq)]
 pub struct Query {
     pub k: usize,
@@ -21,7 +20,7 @@ pub struct Query {
     pub spill: usize,
 }
 
-/// What a search found: the list, and how many ids fell off the last layer.
+/// What a search answers: the list, and how many ids fell off the last layer.
 #[derive(Clone, Copy)]
 pub struct Nearest {
     pub set: ResultSet,
@@ -34,71 +33,47 @@ fn work_lengths_ok(g: Geometry, target: usize, work: usize, layers: usize, set: 
     requires { (g.n ≤ 32) × (g.cap ≤ 65536) }
     ensures { result ≡ work_ok g.d g.n g.cap target work layers set }
 {
-    let words = g.cap / 64;
-    target == g.d && work == g.d && layers == g.n * words && set == words
+    target == g.d && work == g.d && layers == g.n * (g.cap / 64) && set == g.cap / 64
 }
 
-// Refuses 1 for the geometry, then 2 for a length.
-#[tactic(auto, unfolding(crate::specs::Search::search_shape))]
-fn check_shape(
+// Refuses a search with the first of 1, 2, 4 and 5 that is due.
+#[tactic(auto, unfolding(crate::specs::Search::search_shape, crate::specs::Search::search_refusal))]
+fn check_search(
+    bases: &[f32],
+    faces: &[u64],
+    marks: &[u64],
+    vectors: &[u8],
+    work: &[f32],
+    layers: &[u64],
+    set: &[u64],
+    target: &[f32],
     g: Geometry,
-    bases: usize,
-    faces: usize,
-    marks: usize,
-    vectors: usize,
-    target: usize,
-    work: usize,
-    layers: usize,
-    set: usize,
+    k: usize,
 ) -> Result<(), Refusal>
-    ensures { code_of result ≡ search_shape g bases faces marks vectors target work layers set }
+    ensures told { code_of result ≡ search_refusal g bases.now (ix_of faces.now marks.now vectors.now) target.now k (works work.now layers.now set.now) }
+    ensures sized { IfOk result (λ _. FindArgs g k (length bases.now) (length faces.now) (length marks.now) (length vectors.now) (length target.now) (length work.now) (length layers.now) (length set.now)) }
 {
     g.check()?;
-    if !index_memory::inner::own_lengths_ok(g, faces, marks, vectors) {
+    if !index_memory::inner::own_lengths_ok(g, faces.len(), marks.len(), vectors.len()) {
         return Err(Refusal::WrongLength);
     }
-    if !index_memory::inner::bases_length_ok(g, bases) {
+    if !index_memory::inner::bases_length_ok(g, bases.len()) {
         return Err(Refusal::WrongLength);
     }
-    if !work_lengths_ok(g, target, work, layers, set) {
+    if !work_lengths_ok(g, target.len(), work.len(), layers.len(), set.len()) {
         return Err(Refusal::WrongLength);
+    }
+    if k > 256 {
+        return Err(Refusal::WrongK);
+    }
+    if !vector::all_finite(target) {
+        return Err(Refusal::NotFinite);
     }
     Ok(())
 }
 
-// The ids of the highest layer that has search_k of them, ranked; 8 where no layer has as many.
-fn rank_top(
-    layers: &[u64],
-    marks: &[u64],
-    vectors: &[u8],
-    target: &[f32],
-    g: Geometry,
-    w: usize,
-    query: Query,
-    dropped: u32,
-) -> Result<Nearest, Refusal>
-    requires { TopArgs g.n w g.mode query.k (length layers.now) (length marks.now) (length vectors.now) (length target.now) }
-    ensures { told_of result ≡ top_rank_of g.n g.mode query.k query.search_k w layers.now marks.now vectors.now target.now dropped }
-{
-    match counting_bitmap::inner::top_layer(layers, g.n, w, query.search_k) {
-        Some(i) => {
-            let a = i * w;
-            let e = a + w;
-            let set = backend_memory::inner::rank(
-                &layers[a..e],
-                marks,
-                vectors,
-                target,
-                g.mode,
-                query.k,
-            )?;
-            Ok(Nearest { set, dropped })
-        }
-        None => Err(Refusal::NoLayer),
-    }
-}
-
-// What a search past refusal 5 answers, with `picks` faces a basis. It leaves anything in the three work memories.
+// What a search past refusal 5 answers: the candidates are gathered, and the ids of the highest layer that has search_k of them are ranked. It leaves
+// anything in the three work memories.
 fn find_nearest_internal(
     bases: &[f32],
     faces: &[u64],
@@ -110,50 +85,29 @@ fn find_nearest_internal(
     target: &[f32],
     g: Geometry,
     query: Query,
-    picks: usize,
 ) -> Result<Nearest, Refusal>
-    requires { FindArgs g.n g.mode query.k (length bases.now) (length faces.now) (length marks.now) (length vectors.now) (length target.now) (length work.old) (length layers.old) (length set.old) }
-    ensures { told_of result ≡ found_of g.n g.mode query.k query.search_k (query_of bases.now faces.now target.now (length set.old) picks) marks.now vectors.now }
+    requires { FindArgs g query.k (length bases.now) (length faces.now) (length marks.now) (length vectors.now) (length target.now) (length work.old) (length layers.old) (length set.old) }
+    ensures { told_of result ≡ found_of g.n g.mode query.k query.search_k (searched_by g bases.now (ix_of faces.now marks.now vectors.now) target.now query.spill) marks.now vectors.now }
 {
-    let w = set.len();
+    let picks = faces::picks_for(g.d, query.spill);
     let dropped = candidates::inner::gather(bases, faces, target, work, layers, set, g.n, picks)?;
-    rank_top(layers, marks, vectors, target, g, w, query, dropped)
-}
-
-// The same, and whatever the answer, the work memories are all zeros afterwards.
-fn find_and_clear(
-    bases: &[f32],
-    faces: &[u64],
-    marks: &[u64],
-    vectors: &[u8],
-    work: &mut [f32],
-    layers: &mut [u64],
-    set: &mut [u64],
-    target: &[f32],
-    g: Geometry,
-    query: Query,
-    picks: usize,
-) -> Result<Nearest, Refusal>
-    requires { FindArgs g.n g.mode query.k (length bases.now) (length faces.now) (length marks.now) (length vectors.now) (length target.now) (length work.old) (length layers.old) (length set.old) }
-    ensures { searched (told_of result) (works work.new layers.new set.new)
-        ≡ searched (found_of g.n g.mode query.k query.search_k (query_of bases.now faces.now target.now (length set.old) picks) marks.now vectors.now)
-        (cleared (works work.old layers.old set.old)) }
-{
-    let nearest = find_nearest_internal(
-        bases, faces, marks, vectors, work, layers, set, target, g, query, picks,
-    );
-    work.fill(0.0);
-    layers.fill(0);
-    set.fill(0);
-    nearest
+    let words = g.cap / 64;
+    let top = counting_bitmap::inner::top_layer(layers, g.n, words, query.search_k);
+    let Some(i) = top else {
+        return Err(Refusal::NoLayer);
+    };
+    let a = i * words;
+    let ids = &layers[a..a + words];
+    let set = backend_memory::inner::rank(ids, marks, vectors, target, g.mode, query.k)?;
+    Ok(Nearest { set, dropped })
 }
 
 // Lists at most k of the candidates that the index names for the target. The candidates: each basis has a union of the spill + 1 face sets that the
 // target's projection picks (a spill of d or more counts as d - 1), the unions are merged into n counting layers, and the highest layer with search_k ids
 // or more is taken. Each candidate is fed, lowest id first, with its distance from the target, which is not normalised here. Larger scores come first, and a
 // list of more than k candidates keeps the k farthest.
-// Refuses 1, 2, 4, 5, 7 and 8, and then for each candidate in turn 9 or 10. What the paper answers then is an empty list, with k 0 and checked 0, and nothing dropped.
-// Work is d floats, layers n times and set once the words of a set: 1 to 5 leave them alone, and after anything else they are all zeros.
+// Refuses 1, 2, 4, 5, 7 and 8, and then for each candidate in turn 9 or 10: what the paper answers then is an empty list, with k 0 and checked 0, and nothing
+// dropped. Work is d floats, layers n times and set once the words of a set: 1 to 5 leave them alone, and after anything else they are all zeros.
 pub fn find_nearest(
     bases: &[f32],
     faces: &[u64],
@@ -170,31 +124,20 @@ pub fn find_nearest(
         ≡ search_of g bases.now (ix_of faces.now marks.now vectors.now) target.now query.k query.search_k query.spill
         (works work.old layers.old set.old) }
 {
-    check_shape(
-        g,
-        bases.len(),
-        faces.len(),
-        marks.len(),
-        vectors.len(),
-        target.len(),
-        work.len(),
-        layers.len(),
-        set.len(),
+    check_search(
+        bases, faces, marks, vectors, work, layers, set, target, g, query.k,
     )?;
-    if query.k > 256 {
-        return Err(Refusal::WrongK);
-    }
-    if !vector::all_finite(target) {
-        return Err(Refusal::NotFinite);
-    }
-    let picks = faces::picks_for(g.d, query.spill);
-    find_and_clear(
-        bases, faces, marks, vectors, work, layers, set, target, g, query, picks,
-    )
+    let found = find_nearest_internal(
+        bases, faces, marks, vectors, work, layers, set, target, g, query,
+    );
+    work.fill(0.0);
+    layers.fill(0);
+    set.fill(0);
+    found
 }
 
-// Ranks every present id: the backend's scan, under the name that the store gives it. Refuses 1, 2, 4, 5, and 10 for a score that is NaN: what the paper answers then is an
-// empty list, with k 0 and checked 0. It writes to no lent memory.
+// Ranks every present id: the backend's scan, under the name that the store gives it. Refuses 1, 2, 4, 5, and 10 for a score that is NaN: what the paper answers then is
+// an empty list, with k 0 and checked 0. It writes to no lent memory.
 pub fn full_table_scan(
     marks: &[u64],
     vectors: &[u8],

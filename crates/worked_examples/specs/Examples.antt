@@ -1,21 +1,20 @@
 -- P1 to P12, the scope document's worked examples, as one list, and what it means that each of them holds. Floats stand by their
 -- bits. Every meaning is what the call's contract says of its answer, refusal and lent memory included; nothing is defined a second time here.
-use Rattle.std.specs.Prelude.{ℕ, suc, ◌≡◌, List, [], ◌∷◌, map, ℤ, pos, negsuc, length, Float}
+use Rattle.std.specs.Prelude.{ℕ, suc, ◌≡◌, List, [], ◌∷◌, map, ℤ, pos, negsuc, Result, Ok, Err, length, Float}
 use Rattle.std.specs.Float.{binary32}
 use Rattle.std.specs.Float.Ieee.{of_bits}
+use Rattle.paper.specs.declared.Refusal.{Refusal}
+use Rattle.paper.specs.declared.Refusal.TheVariants.{NoLayer}
+use Rattle.paper.specs.Refusals.{Answers}
 use Rattle.sqrt.specs.Root.{Sqrt}
 use Rattle.quantization.specs.Bf16.{lowered}
 use Rattle.faces.specs.Slots.{face_of}
-use Rattle.faces.specs.Answer.{face_number, FaceIs, spilling, listed, spill_of}
-use Rattle.faces.specs.declared.FaceAnswer.{FaceAnswer}
-use Rattle.faces.specs.declared.FaceAnswer.TheVariants.{Face}
+use Rattle.faces.specs.Answer.{face_number, spilling, listed, spill_of}
 use Rattle.bitmaps.specs.Words.{inserted, empty}
 use Rattle.bitmaps.specs.Walk.{ids_of}
 use Rattle.counting_bitmap.specs.Layers.{layer, merged, merged_all}
 use Rattle.counting_bitmap.specs.TopLayer.{top_of}
 use Rattle.counting_bitmap.specs.Answers.{merge_fault, layers_fault, ChosenIs}
-use Rattle.counting_bitmap.specs.declared.Chosen.{Chosen}
-use Rattle.counting_bitmap.specs.declared.Chosen.TheVariants.{Layer, Refused}
 use Rattle.result.specs.Ranked.{Entry, entry}
 use Rattle.result.specs.Leaves.{Leaves}
 
@@ -25,11 +24,11 @@ pub data Example : Type 0 where
   -- a pattern and its bf16
   half : ℕ → ℕ → Example
   -- a projection and what find_face_idx answers
-  face : List ℕ → FaceAnswer → Example
+  face : List ℕ → Result ℤ Refusal → Example
   -- a projection, a spill, the faces picked, none refused, and the projection afterwards
   spill : List ℕ → ℕ → List ℤ → List ℕ → Example
   -- the ids of sets merged into as many empty layers of capacity 64, the ids of each layer then, and for each search_k what top_k_number answers
-  layers : List (List ℕ) → List (List ℕ) → List (ℕ × Chosen) → Example
+  layers : List (List ℕ) → List (List ℕ) → List (ℕ × Result ℕ Refusal) → Example
   -- k, the ids and scores fed to an empty set, the ids and scores listed then, and checked
   feeds : ℕ → List (ℕ × ℕ) → List (ℕ × ℕ) → ℕ → Example
 
@@ -46,11 +45,11 @@ examples =
     ∷ half 0x3F81_8000 0x3F82
     ∷ half 0x7F7F_FFFF 0x7F80
     -- P7: (1,-1); P8: (-3,-1); P9: (5,0,0) with spill 2
-    ∷ face (0x3F80_0000 ∷ 0xBF80_0000 ∷ []) (Face (pos 1))
-    ∷ face (0xC040_0000 ∷ 0xBF80_0000 ∷ []) (Face (negsuc 0))
+    ∷ face (0x3F80_0000 ∷ 0xBF80_0000 ∷ []) (Ok (pos 1))
+    ∷ face (0xC040_0000 ∷ 0xBF80_0000 ∷ []) (Ok (negsuc 0))
     ∷ spill (0x40A0_0000 ∷ 0 ∷ 0 ∷ []) 2 (pos 1 ∷ negsuc 0 ∷ negsuc 0 ∷ []) (0 ∷ 0 ∷ 0 ∷ [])
     -- P10: {1,2}, {2,3}, {2}; search_k 1 picks the third, 2 the first, 4 is refused by 8
-    ∷ layers ((1 ∷ 2 ∷ []) ∷ (2 ∷ 3 ∷ []) ∷ (2 ∷ []) ∷ []) ((1 ∷ 2 ∷ 3 ∷ []) ∷ (2 ∷ []) ∷ (2 ∷ []) ∷ []) ((1, Layer 2) ∷ (2, Layer 0) ∷ (4, Refused 8) ∷ [])
+    ∷ layers ((1 ∷ 2 ∷ []) ∷ (2 ∷ 3 ∷ []) ∷ (2 ∷ []) ∷ []) ((1 ∷ 2 ∷ 3 ∷ []) ∷ (2 ∷ []) ∷ (2 ∷ []) ∷ []) ((1, Ok 2) ∷ (2, Ok 0) ∷ (4, Err NoLayer) ∷ [])
     -- P11: k 2, 7:1.0, 3:2.0, 5:2.0, 9:2.0
     ∷ feeds 2 ((7, 0x3F80_0000) ∷ (3, 0x4000_0000) ∷ (5, 0x4000_0000) ∷ (9, 0x4000_0000) ∷ []) ((3, 0x4000_0000) ∷ (5, 0x4000_0000) ∷ []) 4
     -- P12: k 3, 7:1.5, 5:1.0, 5:2.0
@@ -78,7 +77,7 @@ LayersAre ls j [] = Unit
 LayersAre ls j (is ∷ rest) = (ids_of (layer 1 ls j) ≡ is) × LayersAre ls (suc j) rest
 
 -- of these n layers each search_k gets the answer beside it
-abbrev pub Picks : ℕ → List ℕ → List (ℕ × Chosen) → Type 0
+abbrev pub Picks : ℕ → List ℕ → List (ℕ × Result ℕ Refusal) → Type 0
 Picks n ls [] = Unit
 Picks n ls (p ∷ ps) = ChosenIs (layers_fault 64 n (length ls)) (top_of n 1 ls p.0) p.1 × Picks n ls ps
 
@@ -88,7 +87,7 @@ entry_of (id, bits) = entry id (of_bits binary32 bits)
 abbrev pub Holds : Example → Type 0
 Holds (root b q) = Sqrt b q
 Holds (half b h) = lowered b ≡ h
-Holds (face bits r) = FaceIs r (face_number (floats bits)) (face_of (floats bits))
+Holds (face bits r) = Answers r (face_number (floats bits)) (face_of (floats bits)) (pos 0)
 Holds (spill bits s fs after) = spilling (listed 0 (length fs) fs) (floats after) ≡ spill_of s (floats bits)
 Holds (layers sets ls ps) =
     let n = length sets in

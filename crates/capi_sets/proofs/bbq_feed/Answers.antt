@@ -9,19 +9,19 @@ pub returns-then-ids-scores : goal.returns-then-ids-scores
 returns-then-ids-scores c =
     let a = c.args in
     let o = outs a.out_ids.now a.out_scores.now a.counts.now in
-    feed_unequal a.k a.ids.now a.scores.now o c.if-ids-scores.true
+    rw c.into.ensures (feed_unequal a.k a.ids.now a.scores.now o c.if-ids-scores.true)
 
 pub returns-then-not-room_ok : goal.returns-then-not-room_ok
 returns-then-not-room_ok c =
     let a = c.args in
     let o = outs a.out_ids.now a.out_scores.now a.counts.now in
-    feed_room a.k a.ids.now a.scores.now o c.if-ids-scores.false (sym c.room_ok.ensures ∙ c.if-not-room_ok.true)
+    rw c.into-then-not-room_ok.ensures (feed_room a.k a.ids.now a.scores.now o c.if-ids-scores.false (sym c.room_ok.ensures ∙ c.if-not-room_ok.true))
 
 pub put_fed-requires : goal.put_fed-requires
 put_fed-requires c =
     let a = c.args in
     let r = room _ _ _ _ _ (sym c.room_ok.ensures ∙ c.if-not-room_ok.false) in
-    (feed_fits a.k a.ids.now a.scores.now _ _ _ c.feed_new-fed.ensures r.ids r.scores, r.counts)
+    record { fits = feed_fits a.k a.ids.now a.scores.now _ _ _ c.feed_new-fed.ensures r.ids r.scores; two = r.counts }
 
 pub returns : goal.returns
 returns c =

@@ -42,16 +42,16 @@ hold = (
           (
             refl,
             (
-              record { refusal = refl; face = refl; case = refl },
+              record { refusal = refl; value = refl },
               (
-                record { refusal = refl; face = refl; case = refl },
+                record { refusal = refl; value = refl },
                 (
                   refl,
                   (
                     (
                       (refl, (refl, (refl, tt))),
                       (refl, (refl, (refl, tt))),
-                      (record { answer = refl; refusal = refl; value = refl }, (record { answer = refl; refusal = refl; value = refl }, (record { answer = refl; refusal = refl; value = refl }, tt))),
+                      (record { refusal = refl; value = refl }, (record { refusal = refl; value = refl }, (record { refusal = refl; value = refl }, tt))),
                     ),
                     (
                       leaves 2 _ _ (omega arith) (omega arith) refl refl,

@@ -1,26 +1,16 @@
 -- `capi_sets::inner::put_fed` meets its contract. Assumes nothing.
-use native.Mathlib.Omega.{arith}
-use Rattle.capi_sets.specs.Lists.{outs}
-use Rattle.capi_sets.proofs.Lists.{fed_kept, fed_laid}
+use Rattle.std.proofs.Common.{arith}
+use lib.ListN.{length}
+use Rattle.capi_sets.specs.Lists.{Fits}
 use Rattle.capi_sets.proofs.inner.put_fed.Goals as goal
+use Rattle.capi_sets.proofs.inner.put_fed.Goals.{In-Ok}
 
-pub returns-then-fed-ne0 : goal.returns-then-fed-ne0
-returns-then-fed-ne0 c = let a = c.args in fed_kept a.fed (outs a.ids.now a.scores.now a.counts.now) c.if-fed-ne0.true
+-- the list of an accepted set has room
+fits : (c : In-Ok) → Fits c.in-Ok.set (length c.args.ids.now) (length c.args.scores.now)
+fits c = rw c.in-Ok.is at c.requires.fits
 
-pub copy_front-requires : goal.copy_front-requires
-copy_front-requires c =
-    let F = c.requires.0 c.if-fed-ne0.false in
-    (omega (arith, F.small), F.ids)
+pub put_list-requires : goal.put_list-requires
+put_list-requires c = fits (goal.at.put_list-requires c).In-Ok
 
-pub copy_front-requires-2 : goal.copy_front-requires-2
-copy_front-requires-2 c =
-    let F = c.requires.0 c.if-fed-ne0.false in
-    (omega (arith, F.small), F.scores)
-
-pub overflow_cast-len : goal.overflow_cast-len
-overflow_cast-len c = omega (arith, (c.requires.0 c.if-fed-ne0.false).small)
-
-pub returns : goal.returns
-returns c =
-    let a = c.args in
-    fed_laid a.fed (outs a.ids.now a.scores.now a.counts.now) _ _ _ c.if-fed-ne0.false c.copy_front.ensures c.copy_front-2.ensures c.tell_two.ensures
+pub overflow_cast-set : goal.overflow_cast-set
+overflow_cast-set c = omega (arith, (fits (goal.at.overflow_cast-set c).In-Ok).small)

@@ -60,18 +60,18 @@ module _ (g : Session) (m : Mem) (nb nf nm nv : ℕ) (eb : nb ≡ bases_len g.d 
 
     pub find_is : (v work : List Float) (layers set : List ℕ) (k wanted spill : ℕ) (f : Nearest) (after : Work)
         → searched f after ≡ search_of x (take nb m.bases) (ix_of (take nf m.ix.faces) (take nm m.ix.marks) (take nv m.ix.vecs)) v k wanted spill (works work layers set)
-        → (f ≡ found_by v work layers set g k wanted spill m) × (f.set.len ≤ 256)
+        → f ≡ found_by v work layers set g k wanted spill m
     unfolding found_by
-    find_is v work layers set k wanted spill f after e = (
-      ap (λ (y : Searched). y.answer) e ∙ rw (ex, eb, ef, em, ev) refl,
-      subst (λ (y : Searched). y.answer.set.len ≤ 256) (sym e)
-          (listed_few x (take nb m.bases) (ix_of (take nf m.ix.faces) (take nm m.ix.marks) (take nv m.ix.vecs)) v k wanted spill (works work layers set)),
-    )
+    find_is v work layers set k wanted spill f after e = ap (λ (y : Searched). y.answer) e ∙ rw (ex, eb, ef, em, ev) refl
 
 -- the list of an accepted search
-pub few_listed : (r : Result Rust.Nearest Refusal) → (told_of r).set.len ≤ 256 → IfOk r (λ f. f.set.len ≤ 256)
-few_listed (Ok f) h = h
-few_listed (Err r) h = tt
+few : (r : Result Rust.Nearest Refusal) → (told_of r).set.len ≤ 256 → IfOk r (λ f. f.set.len ≤ 256)
+few (Ok f) h = h
+few (Err r) h = tt
+
+pub few_listed : (r : Result Rust.Nearest Refusal) (g : Geo) (bs : List Float) (ix : Ix) (t : List Float) (k wanted spill : ℕ) (m after : Work)
+    → searched (told_of r) after ≡ search_of g bs ix t k wanted spill m → IfOk r (λ f. f.set.len ≤ 256)
+few_listed r g bs ix t k wanted spill m after e = few r (subst (λ (y : Searched). y.answer.set.len ≤ 256) (sym e) (listed_few g bs ix t k wanted spill m))
 
 -- a search over memory of its own that is all zeros
 pub found_as : (s : List ℕ) (g : Session) (k wanted spill : ℕ) (m : Mem) (v : List Float) (f : Nearest) → Limits g → take g.d v ≡ floats_at g.d s 10

@@ -41,12 +41,7 @@ fn show_changed(rt: &impl Print, answer: Result<(), Refusal>, words: &[u64]) -> 
 }
 
 // The same of a call on both memories, and the words of the second.
-fn show_both(
-    rt: &impl Print,
-    answer: Result<(), Refusal>,
-    a: &[u64],
-    b: &[u64],
-) -> io::Result<()> {
+fn show_both(rt: &impl Print, answer: Result<(), Refusal>, a: &[u64], b: &[u64]) -> io::Result<()> {
     show_changed(rt, answer, a)?;
     show_all(rt, b, 1)
 }

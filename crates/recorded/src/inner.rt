@@ -4,6 +4,7 @@ ghost use Rattle.std.specs.Prelude.{◌≡◌, ◌%◌, ◌/◌};
 ghost use Rattle.std.specs.Float.{binary32};
 ghost use Rattle.std.specs.Float.Ieee.{of_bits};
 
+use paper::Refusal;
 use std::io;
 use std::io::Read;
 
@@ -101,16 +102,16 @@ pub fn show_all<T: Copy + Into<u64>>(rt: &impl Print, xs: &[T], digits: usize) -
     Ok(())
 }
 
-// `refused` and the number; nothing for 0.
-pub fn show_refused(rt: &impl Print, refusal: u32) -> io::Result<()> {
-    if refusal != 0 {
-        print!(rt; " refused {refusal}")?;
+// `refused` and the number; nothing where the call was accepted.
+pub fn show_refused(rt: &impl Print, answer: Result<(), Refusal>) -> io::Result<()> {
+    if let Err(refusal) = answer {
+        print!(rt; " {refusal}")?;
     }
     Ok(())
 }
 
 // The same, and the end of the line.
-pub fn show_refusal(rt: &impl Print, refusal: u32) -> io::Result<()> {
-    show_refused(rt, refusal)?;
+pub fn show_refusal(rt: &impl Print, answer: Result<(), Refusal>) -> io::Result<()> {
+    show_refused(rt, answer)?;
     println!(rt; "")
 }

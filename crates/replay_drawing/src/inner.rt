@@ -1,18 +1,16 @@
 // What is drawn, and what a digest is, is stated in specs/ and proved.
 ghost use Rattle.std.specs.Prelude.{◌≡◌, length};
+ghost use Rattle.paper.specs.Refusals.{code_of};
 ghost use Rattle.replay_drawing.specs.Draws.{next_of, component_of, Draws, BasisDrawn, id_of};
 ghost use Rattle.replay_drawing.specs.Digests.{taken_of, digest_of, halves};
 
+use paper::{Geometry, Refusal};
 use recorded::inner::{high, low};
 
-// A run: its geometry, the words of its counting layers, the rounds of its bases, and what its vectors and targets are drawn with.
+// A run: its geometry, the rounds of its bases, and what its vectors and targets are drawn with.
 #[derive(Clone, Copy)]
 pub struct Case {
-    pub d: usize,
-    pub n: usize,
-    pub cap: usize,
-    pub mode: usize,
-    pub layers: usize,
+    pub geometry: Geometry,
     pub rounds: usize,
     pub grain: u16,
     pub scale: f32,
@@ -67,8 +65,8 @@ fn draw_basis(
     rounds: usize,
     seed: &mut u32,
     grain: u16,
-) -> u32
-    ensures { BasisDrawn (length basis.old) d rounds seed.old grain out.old out.new result seed.new }
+) -> Result<(), Refusal>
+    ensures { BasisDrawn (length basis.old) d rounds seed.old grain out.old out.new (code_of result) seed.new }
 {
     draw(basis, seed, grain, 0.015625);
     ortho::orthonormalize(basis, out, d, rounds)
@@ -78,25 +76,19 @@ fn draw_basis(
 pub fn draw_bases(
     bases: &mut [f32],
     basis: &mut [f32],
-    d: usize,
-    n: usize,
-    rounds: usize,
+    case: Case,
     seed: &mut u32,
-    grain: u16,
-) -> u32 {
+) -> Result<(), Refusal> {
     let size = basis.len();
     let mut rest = bases;
-    for _ in 0..n {
+    for _ in 0..case.geometry.n {
         let Some((out, after)) = rest.split_at_mut_checked(size) else {
-            return paper::WRONG_LENGTH;
+            return Err(Refusal::WrongLength);
         };
-        let refusal = draw_basis(out, basis, d, rounds, seed, grain);
-        if refusal != 0 {
-            return refusal;
-        }
+        draw_basis(out, basis, case.geometry.d, case.rounds, seed, case.grain)?;
         rest = after;
     }
-    0
+    Ok(())
 }
 
 // ---- digests

@@ -51,6 +51,7 @@ pub fn draw_vector(v: &mut [f32], d: usize, seed: &mut u32, grain: u16, scale: f
 }
 
 // The id that a draw stands for.
+#[tactic(auto, unfolding(crate::specs::Draws::id_of))]
 pub fn id_of(draw: u32, cap: usize) -> usize
     ensures { result ≡ id_of draw cap }
 {

@@ -102,6 +102,7 @@ fn taken(h: u32, x: u32) -> u32
 }
 
 // The digest of words: of each the low half, then the high half.
+#[tactic(auto, using(crate::proofs::Turns::words_turn, crate::proofs::Turns::words_end))]
 pub fn digest_words(words: &[u64]) -> u32
     ensures { result ≡ digest_of 1 (halves words.now) }
 {
@@ -113,6 +114,7 @@ pub fn digest_words(words: &[u64]) -> u32
 }
 
 // The digest of bytes.
+#[tactic(auto, using(crate::proofs::Turns::bytes_turn, crate::proofs::Turns::bytes_end))]
 pub fn digest_bytes(bytes: &[u8]) -> u32
     ensures { result ≡ digest_of 1 bytes.now }
 {

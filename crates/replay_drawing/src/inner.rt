@@ -35,6 +35,7 @@ fn component(draw: u32, grain: u16, scale: f32) -> f32
 }
 
 // Draws a component for each place.
+#[tactic(auto, using(crate::proofs::Turns::draws_turn, crate::proofs::Turns::draws_end, crate::proofs::Turns::place_turn, crate::proofs::Turns::place_end))]
 pub fn draw(out: &mut [f32], seed: &mut u32, grain: u16, scale: f32)
     ensures { Draws (length out.old) seed.old grain scale out.new seed.new }
 {

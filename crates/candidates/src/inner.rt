@@ -18,7 +18,8 @@ fn spill_into(faces: &[u64], work: &mut [f32], set: &mut [u64], picks: usize)
     }
 }
 
-// One basis: its union is merged into the layers, and the answer is how many ids fell off the last. Refuses 7, and leaves anything in the memories, if an entry of the projection is not finite.
+// One basis: its union is merged into the layers, and the answer is how many ids fell off the last. Refuses 7, and leaves anything in the memories, if an
+// entry of the projection is not finite.
 fn gather_basis(
     basis: &[f32],
     faces: &[u64],
@@ -43,7 +44,8 @@ fn gather_basis(
     Ok(bitmaps::inner::count(set))
 }
 
-// All n bases, from emptied layers: 7, or the layers as the unions make them, and how many ids fell off the last. What is left in work and set is for the caller to clear.
+// All n bases, from emptied layers: 7, or the layers as the unions make them, and how many ids fell off the last. What is left in work and set is for the
+// caller to clear.
 pub fn gather(
     bases: &[f32],
     faces: &[u64],

@@ -1,6 +1,7 @@
 -- What a turn of the loop comes to, on plain values, and that turns play a run. Assumes nothing.
 use mathlib.Core.Path.{◌≡◌, refl, sym, ap, ◌∙◌, subst}
-use mathlib.Core.Bool.{Bool, true, false, not}
+use mathlib.Core.Bool.{Bool, true, false}
+use Rattle.std.proofs.Common.{Some, None}
 use mathlib.Core.List.{List, [], ◌∷◌, ◌++◌, append-nil}
 use Prim.Native.Nat.{ℕ, zero, suc, ◌+◌, ◌-◌, ◌≤◌}
 use native.Mathlib.Omega.{arith}
@@ -46,14 +47,6 @@ read_behind k end buf rest h e =
 
 -- ---- a turn
 
-pub not_so : (b : Bool) → not b ≡ true → b ≡ false
-not_so true e = sym e
-not_so false e = refl
-
-pub so : (b : Bool) → not b ≡ false → b ≡ true
-so true e = refl
-so false e = sym e
-
 module _ (pending : List ℕ) (st : State) (out : List ℕ) (f : Far) (q : f ≡ feed_of pending st out) where
   unwritten : over ≡ next_of pending st out (record { wrote = false; more = false; read = [] })
   unfolding next_of
@@ -76,43 +69,37 @@ module _ (pending : List ℕ) (st : State) (out : List ℕ) (f : Far) (q : f ≡
 -- ---- a turn that meets its contract: what the call of feed, the reading and the places come to
 
 module _ (from end : ℕ) (buf : List ℕ) (st : State) (out : List ℕ) (f : Far) (q : f ≡ feed_of (between from end buf) st out) where
-  -- over: what was put could not be written, or feed stops
-  pub ends : (t : Place) (wrote : Bool) → t.goes ≡ false → (wrote ≡ true → f.stops ≡ true) → t.from ≤ t.end → t.end ≤ length buf
-      → Turned (between from end buf) st out t buf
-  ends t true g s l h = record {
-    outside = record { wrote = true; more = false; read = [] };
-    next = rw g (stops_over (between from end buf) st out f q (s refl));
-    low = l;
-    high = h;
-  }
-  ends t false g s l h = record {
-    outside = record { wrote = false; more = false; read = [] };
-    next = rw g (unwritten (between from end buf) st out f q);
-    low = l;
-    high = h;
-  }
+  -- over: what was put could not be written
+  pub cut : (buf' : List ℕ) → Turned (between from end buf) st out None buf'
+  cut buf' = record { outside = record { wrote = false; more = false; read = [] }; next = unwritten (between from end buf) st out f q; places = tt }
+
+  -- over: feed stops
+  pub stops : (buf' : List ℕ) → f.stops ≡ true → Turned (between from end buf) st out None buf'
+  stops buf' s = record { outside = record { wrote = true; more = false; read = [] }; next = stops_over (between from end buf) st out f q s; places = tt }
+
+  -- over: there is no more input
+  pub dry : (buf' : List ℕ) → f.stops ≡ false → f.waits ≡ true → Turned (between from end buf) st out None buf'
+  dry buf' s w = record { outside = record { wrote = true; more = false; read = [] }; next = waits_on (between from end buf) st out f q false [] s w; places = tt }
 
   -- the buffer for what is put was full
-  pub goes : (t : Place) → t.goes ≡ true → f.stops ≡ false → f.waits ≡ false → t.from ≡ from + f.used → t.end ≡ end → held t.store ≡ f.state
-      → t.from ≤ t.end → t.end ≤ length buf → Turned (between from end buf) st out t buf
-  goes t g s w ef ee es l h = record {
+  pub goes : (t : Place) → f.stops ≡ false → f.waits ≡ false → t.from ≡ from + f.used → t.end ≡ end → held t.store ≡ f.state
+      → t.from ≤ t.end → t.end ≤ length buf → Turned (between from end buf) st out (Some t) buf
+  goes t s w ef ee es l h = record {
     outside = record { wrote = true; more = false; read = [] };
-    next = rw (g, ef, ee, es, ← left_between from end f.used buf) (full_on (between from end buf) st out f q s w);
-    low = l;
-    high = h;
+    next = rw (ef, ee, es, ← left_between from end f.used buf) (full_on (between from end buf) st out f q s w);
+    places = (l, h);
   }
 
-  -- more was read, or there is no more
+  -- more was read
   pub reads : (t : Place) (rest : ℕ) (buf' : List ℕ) → f.stops ≡ false → f.waits ≡ true → rest ≡ from + f.used → t.from ≡ 0 → held t.store ≡ f.state
       → end - rest ≤ t.end → t.end ≤ length buf' → take (end - rest) buf' ≡ take (end - rest) (drop rest buf)
-      → Turned (between from end buf) st out t buf'
+      → Turned (between from end buf) st out (Some t) buf'
   reads t rest buf' s w er ef es l h e = record {
-    outside = record { wrote = true; more = t.goes; read = drop (end - rest) (take t.end buf') };
+    outside = record { wrote = true; more = true; read = drop (end - rest) (take t.end buf') };
     next =
-        ap (λ (x : List ℕ × State). pick t.goes (on x.0 x.1) over) (pair_is (read_behind (end - rest) t.end buf' (left f (between from end buf)) l (e ∙ rw er (sym (left_between from end f.used buf)))) es)
-        ∙ waits_on (between from end buf) st out f q t.goes _ s w;
-    low = omega (arith, ef);
-    high = h;
+        ap (λ (x : List ℕ × State). on x.0 x.1) (pair_is (read_behind (end - rest) t.end buf' (left f (between from end buf)) l (e ∙ rw er (sym (left_between from end f.used buf)))) es)
+        ∙ waits_on (between from end buf) st out f q true _ s w;
+    places = (omega (arith, ef), h);
   }
     where
       pair_is : {b : List ℕ} {x y : State} → between 0 t.end buf' ≡ b → x ≡ y → ◌≡◌ {A = List ℕ × State} (between t.from t.end buf', x) (b, y)

@@ -1,5 +1,5 @@
 -- One turn of the program's loop, and what turns one after another come to (01, "The search program").
-use Rattle.std.specs.Prelude.{ℕ, ◌-◌, ◌≤◌, ◌≡◌, Bool, List, [], ◌++◌, length, take, drop}
+use Rattle.std.specs.Prelude.{ℕ, ◌-◌, ◌≤◌, ◌≡◌, Bool, List, [], ◌++◌, length, take, drop, Option, Some, None, IfSome}
 use Rattle.paper.specs.Choice.{pick}
 use Rattle.steps.specs.Steps.{State, held}
 use Rattle.session.specs.Runs.{Far, feed_of, end_text}
@@ -33,16 +33,16 @@ next_by f pending e = pick e.wrote (pick f.stops over (pick f.waits (refilled f 
 unfoldable pub next_of : List ℕ → State → List ℕ → Outside → Next
 next_of pending st out e = next_by (feed_of pending st out) pending e
 
--- what a turn answers stands for: its bytes are in the input buffer
-abbrev pub stands_for : Place → List ℕ → Next
-stands_for t buf = pick t.goes (on (between t.from t.end buf) (held t.store)) over
+-- what a turn answers stands for: its bytes are in the input buffer, and none is the run's end
+abbrev pub stands_for : Option Place → List ℕ → Next
+stands_for (Some t) buf = on (between t.from t.end buf) (held t.store)
+stands_for None buf = over
 
 -- a turn did what next_of says, for some outside, and its places lie in the buffer
-pub record Turned (pending : List ℕ) (st : State) (out : List ℕ) (t : Place) (buf : List ℕ) : Type 0 where
+pub record Turned (pending : List ℕ) (st : State) (out : List ℕ) (t : Option Place) (buf : List ℕ) : Type 0 where
   pub outside : Outside
   pub next : stands_for t buf ≡ next_of pending st out outside
-  pub low : t.from ≤ t.end
-  pub high : t.end ≤ length buf
+  pub places : IfSome t (λ p. (p.from ≤ p.end) × (p.end ≤ length buf))
 
 -- what is printed last, behind what feed has put: nothing where feed stops, else what the end of the input prints
 unfoldable pub last_of : List ℕ → State → List ℕ → List ℕ

@@ -24,9 +24,9 @@ fn copy_line(rt: &impl Print, input: &mut impl Read) -> io::Result<()> {
     show_floats(rt, v)?;
     print!(rt; " {len}")?;
     show_all(rt, array, 2)?;
-    let refusal = quantization::marshal(mode, v, array);
+    let answer = quantization::marshal(mode, v, array);
     show_all(rt, array, 2)?;
-    show_refusal(rt, refusal)
+    show_refusal(rt, answer)
 }
 
 // How many components that many bytes hold.
@@ -44,10 +44,10 @@ fn read_line(rt: &impl Print, input: &mut impl Read) -> io::Result<()> {
     print!(rt; "read {mode} {len}")?;
     show_all(rt, array, 2)?;
     let mut v = [0.0f32; 16];
-    let refusal = quantization::unmarshal(mode, array, &mut v);
+    let answer = quantization::unmarshal(mode, array, &mut v);
     let n = v.len().min(components_in(len, mode));
     show_floats(rt, &v[..n])?;
-    show_refusal(rt, refusal)
+    show_refusal(rt, answer)
 }
 
 fn main(rt: HostRuntime) -> io::Result<()> {

@@ -63,9 +63,6 @@ module _ (d n cap mode lf lm lv : ℕ) where
   unfolding own_refusal
   own_tests e = both_good (geo_ok d n cap mode) (own_ok d n cap mode lf lm lv) e
 
-  pub own_none : own_refusal d n cap mode lf lm lv ≡ 0 → Sized d n cap mode lf lm lv
-  own_none e = let t = own_tests e in own_sized d n cap mode lf lm lv t.0 t.1
-
   -- one of the two, whatever else a call tests afterwards
   pub own_first : (c : Bool) (r : ℕ) → (own_refusal d n cap mode lf lm lv ≡ 0 → ⊥)
       → own_refusal d n cap mode lf lm lv ≡ refuse 1 (geo_ok d n cap mode) (refuse 2 (own_ok d n cap mode lf lm lv and c) r)

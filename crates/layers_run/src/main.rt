@@ -5,28 +5,31 @@
 //   LETTER CAP N K  a call with capacity CAP on N layers: m or with the set, g cardinalities, p top_k with search_k K, q top_k_number with search_k K
 #![tactic(auto)]
 
-use counting_bitmap::{Chosen, Counts, Merged};
+use counting_bitmap::Counts;
+use paper::Refusal;
 use recorded::inner::{fill, letter, number, show_all};
 use std::io;
 use std::io::Read;
 
-fn show_merged(rt: &impl Print, answer: Merged, a: &[u64], b: &[u64]) -> io::Result<()> {
+// The dropped count, and what stands in both memories.
+fn show_merged(
+    rt: &impl Print,
+    answer: Result<u32, Refusal>,
+    a: &[u64],
+    b: &[u64],
+) -> io::Result<()> {
     match answer {
-        Merged::Dropped(n) => print!(rt; "dropped {n}")?,
-        Merged::Refused(f) => print!(rt; "refused {f}")?,
+        Ok(n) => print!(rt; "dropped {n}")?,
+        Err(refusal) => print!(rt; "{refusal}")?,
     }
     show_all(rt, a, 1)?;
     print!(rt; " |")?;
     show_all(rt, b, 1)
 }
 
-// Shows the counts, each after a blank, and `left` for each place past them that is not 0.
+// The counts, each after a blank, and `left` for each place past them that is not 0.
 fn show_counts(rt: &impl Print, answer: Counts) -> io::Result<()> {
-    if answer.refusal == 0 {
-        print!(rt; "counts")?;
-    } else {
-        print!(rt; "refused {}", answer.refusal)?;
-    }
+    print!(rt; "counts")?;
     for (i, count) in answer.counts.iter().enumerate() {
         if i < answer.count {
             print!(rt; " {count}")?;
@@ -37,10 +40,17 @@ fn show_counts(rt: &impl Print, answer: Counts) -> io::Result<()> {
     Ok(())
 }
 
-fn show_chosen(rt: &impl Print, answer: Chosen) -> io::Result<()> {
+fn show_counted(rt: &impl Print, answer: Result<Counts, Refusal>) -> io::Result<()> {
     match answer {
-        Chosen::Layer(i) => print!(rt; "layer {i}"),
-        Chosen::Refused(f) => print!(rt; "refused {f}"),
+        Ok(counts) => show_counts(rt, counts),
+        Err(refusal) => print!(rt; "{refusal}"),
+    }
+}
+
+fn show_chosen(rt: &impl Print, answer: Result<usize, Refusal>) -> io::Result<()> {
+    match answer {
+        Ok(i) => print!(rt; "layer {i}"),
+        Err(refusal) => print!(rt; "{refusal}"),
     }
 }
 
@@ -56,7 +66,7 @@ fn call(
 ) -> io::Result<()> {
     match letter {
         b'm' => show_merged(rt, counting_bitmap::or(cap, n, a, b), a, b)?,
-        b'g' => show_counts(rt, counting_bitmap::cardinalities(cap, n, a))?,
+        b'g' => show_counted(rt, counting_bitmap::cardinalities(cap, n, a))?,
         b'p' => {
             print!(rt; "part")?;
             show_all(rt, counting_bitmap::top_k(cap, n, a, k), 1)?;

@@ -9,11 +9,11 @@ use lib.Dec.{eqb}
 use lib.ListN.{length, take, drop, set, get_or, length-append, length-drop, drop_of_length-le}
 use lib.Seq.{sets, sets-eq, paste, take_all, drop-cons}
 use lib.Ieee.{Float, nan}
-use borrow.Author.Tests.{eq-eqb, ne_eqb, lt-ltb, le-ltb}
+use borrow.Author.Tests.{eq-eqb, ne_eqb}
 use Rattle.lines.specs.declared.Told.{Told}
 use Rattle.lines.specs.declared.Told.TheVariants.{Refused, Geometry, Basis, Added, Found}
 use Rattle.paper.specs.Refusals.{number_of}
-use Rattle.lines.specs.Lines.{Put, refused_line, told, trimmed, ten_digits, decimal, glyph, hexadecimal, entry, listing}
+use Rattle.lines.specs.Lines.{Put, refused_line, told, trimmed, ten_digits, decimal, hexadecimal, entry, listing}
 
 -- ---- stores one after another
 
@@ -68,12 +68,6 @@ trim_length (x ∷ y ∷ ds) = go (eqb x 48) (trim_length (y ∷ ds))
 pub decimal_length : (n : ℕ) → length (decimal n) ≤ 10
 unfolding decimal
 decimal_length n = trim_length (ten_digits n)
-
-pub low_glyph : (x : ℕ) → x < 10 → 48 + x ≡ glyph x
-low_glyph x h = rw (lt-ltb x 10 h) refl
-
-pub high_glyph : (x : ℕ) → 10 ≤ x → 55 + x ≡ glyph x
-high_glyph x h = rw (le-ltb x 10 h) refl
 
 -- ---- a list of entries
 

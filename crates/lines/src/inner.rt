@@ -26,7 +26,8 @@ fn trimmed_part(text: &[u8]) -> &[u8]
     text
 }
 
-// A number in decimal: all ten digits that 32 bits can have, then the part without leading zeros.
+// A number in decimal: all ten digits that 32 bits can have, then the part without leading zeros. (Not by the library's formatting: it
+// goes to a writer, which would have to borrow the lent buffer and keep the place.)
 pub fn put_decimal(out: &mut [u8], at: usize, n: u32) -> usize
     requires { at + 10 ≤ length out.old }
     ensures { Put out.old out.new at result (decimal n) }
@@ -58,7 +59,7 @@ fn glyph(x: u32) -> u8
     }
 }
 
-// A number as eight hexadecimal digits.
+// A number as eight hexadecimal digits. (Not by the library's formatting, as above.)
 pub fn put_hexadecimal(out: &mut [u8], at: usize, n: u32) -> usize
     requires { at + 8 ≤ length out.old }
     ensures { Put out.old out.new at result (hexadecimal n) }

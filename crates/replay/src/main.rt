@@ -10,6 +10,7 @@
 // A refusal that is not in the record is written as `refused` and its number.
 #![tactic(auto)]
 
+use paper::Geometry;
 use recorded::inner::{float, letter, low, number, show_all, show_refused, shown};
 use replay_drawing::inner::Case;
 use std::io;
@@ -25,16 +26,13 @@ fn shown_float(rt: &impl Print, input: &mut impl Read) -> io::Result<f32> {
 // Reads the numbers of a run up to the aim, and shows them.
 fn read_case(rt: &impl Print, input: &mut impl Read) -> io::Result<Case> {
     print!(rt; "run")?;
-    let d = shown(rt, input)? as usize;
-    let n = shown(rt, input)? as usize;
-    let cap = shown(rt, input)? as usize;
-    let mode = shown(rt, input)? as usize;
     Ok(Case {
-        d,
-        n,
-        cap,
-        mode,
-        layers: paper::lengths_for(d, n, cap, mode).layers,
+        geometry: Geometry {
+            d: shown(rt, input)? as usize,
+            n: shown(rt, input)? as usize,
+            cap: shown(rt, input)? as usize,
+            mode: shown(rt, input)? as usize,
+        },
         rounds: shown(rt, input)? as usize,
         grain: (shown(rt, input)? & 0xffff) as u16,
         scale: shown_float(rt, input)?,
@@ -46,7 +44,7 @@ fn read_case(rt: &impl Print, input: &mut impl Read) -> io::Result<Case> {
 fn line(
     rt: &impl Print,
     input: &mut impl Read,
-    g: Case,
+    case: Case,
     seed: &mut u32,
     bases: &[f32],
     faces: &mut [u64],
@@ -55,13 +53,15 @@ fn line(
 ) -> io::Result<()> {
     match letter(input)? {
         Some(b'a') => {
-            replay_dealing::inner::add(rt, input, g, seed, bases, faces, marks, vectors)
+            replay_dealing::inner::add(rt, input, case, seed, bases, faces, marks, vectors)
         }
         Some(b'd') => {
-            replay_dealing::inner::deal(rt, input, g, seed, bases, faces, marks, vectors)
+            replay_dealing::inner::deal(rt, input, case, seed, bases, faces, marks, vectors)
         }
-        Some(b'f') => replay_asking::inner::find(rt, input, g, seed, bases, faces, marks, vectors),
-        Some(b's') => replay_asking::inner::scan(rt, input, g, seed, marks, vectors),
+        Some(b'f') => replay_asking::inner::find(
+            rt, input, case, seed, bases, faces, marks, vectors,
+        ),
+        Some(b's') => replay_asking::inner::scan(rt, input, case, seed, marks, vectors),
         Some(b'm') => replay_asking::inner::memory(rt, faces, marks, vectors),
         _ => Ok(()),
     }
@@ -71,18 +71,18 @@ fn line(
 fn play(
     rt: &impl Print,
     input: &mut impl Read,
-    g: Case,
+    case: Case,
     bases: &mut [f32],
     faces: &mut [u64],
     marks: &mut [u64],
     vectors: &mut [u8],
 ) -> io::Result<()> {
     let mut seed = low(shown(rt, input)?);
-    replay_filling::inner::start(rt, g, &mut seed, bases)?;
-    let refusal = index_memory::new_vector_store(faces, marks, vectors, g.d, g.n, g.cap, g.mode);
-    show_refused(rt, refusal)?;
+    replay_filling::inner::start(rt, case, &mut seed, bases)?;
+    let answer = index_memory::new_vector_store(faces, marks, vectors, case.geometry);
+    show_refused(rt, answer)?;
     for _ in 0..number(input)? {
-        line(rt, input, g, &mut seed, bases, faces, marks, vectors)?;
+        line(rt, input, case, &mut seed, bases, faces, marks, vectors)?;
     }
     Ok(())
 }
@@ -96,8 +96,8 @@ fn run(
     marks: &mut [u64],
     vectors: &mut [u8],
 ) -> io::Result<()> {
-    let g = read_case(rt, input)?;
-    let lengths = paper::lengths_for(g.d, g.n, g.cap, g.mode);
+    let case = read_case(rt, input)?;
+    let lengths = case.geometry.lengths();
     let nb = lengths.bases.min(bases.len());
     let nf = lengths.faces.min(faces.len());
     let nm = lengths.marks.min(marks.len());
@@ -105,7 +105,7 @@ fn run(
     play(
         rt,
         input,
-        g,
+        case,
         &mut bases[..nb],
         &mut faces[..nf],
         &mut marks[..nm],

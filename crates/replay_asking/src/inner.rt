@@ -1,10 +1,12 @@
 // A line of questions: `f` a search, `s` a scan, each for a drawn target, `m` digests of face sets, marks and stored vectors. Of these functions it is proved
 // that they are safe and end.
-use recorded::inner::{show_floats, show_refusal, shown};
+use paper::Refusal;
+use recorded::inner::{show_floats, shown};
 use replay_drawing::inner::{Case, digest_bytes, digest_words, draw_vector};
-use result::{Listed, ResultSet};
+use result::ResultSet;
 use std::io;
 use std::io::Read;
+use vector_store::Query;
 
 // ---- showing
 
@@ -14,22 +16,22 @@ fn show_list(rt: &impl Print, set: ResultSet) -> io::Result<()> {
     print!(rt; " {} {n}", set.checked)?;
     for i in 0..n {
         match set.result_at(i) {
-            Listed::Here(e) => {
+            Some(e) => {
                 print!(rt; " {}", e.id)?;
                 show_floats(rt, &[e.similarity])?;
             }
-            Listed::Past => print!(rt; " past")?,
+            None => print!(rt; " past")?,
         }
     }
     println!(rt; "")
 }
 
 // The list; or `none` where no layer holds as many ids as asked for, and the number of any other refusal.
-fn show_answer(rt: &impl Print, refusal: u32, set: ResultSet) -> io::Result<()> {
-    match refusal {
-        0 => show_list(rt, set),
-        paper::NO_LAYER => println!(rt; " none"),
-        _ => show_refusal(rt, refusal),
+fn show_answer(rt: &impl Print, answer: Result<ResultSet, Refusal>) -> io::Result<()> {
+    match answer {
+        Ok(set) => show_list(rt, set),
+        Err(Refusal::NoLayer) => println!(rt; " none"),
+        Err(refusal) => println!(rt; " {refusal}"),
     }
 }
 
@@ -39,7 +41,7 @@ fn show_answer(rt: &impl Print, refusal: u32, set: ResultSet) -> io::Result<()> 
 pub fn find(
     rt: &impl Print,
     input: &mut impl Read,
-    g: Case,
+    case: Case,
     seed: &mut u32,
     bases: &[f32],
     faces: &[u64],
@@ -47,16 +49,19 @@ pub fn find(
     vectors: &[u8],
 ) -> io::Result<()> {
     print!(rt; "find")?;
-    let k = shown(rt, input)? as usize;
-    let search_k = shown(rt, input)? as usize;
-    let spill = shown(rt, input)? as usize;
+    let query = Query {
+        k: shown(rt, input)? as usize,
+        search_k: shown(rt, input)? as usize,
+        spill: shown(rt, input)? as usize,
+    };
+    let g = case.geometry;
     let mut v = [0.0f32; 64];
     let mut work = [0.0f32; 64];
     let mut layers = [0u64; 128];
     let mut set = [0u64; 16];
-    draw_vector(&mut v, g.d, seed, g.grain, g.aim);
+    draw_vector(&mut v, g.d, seed, case.grain, case.aim);
     let len = g.d.min(64);
-    let nl = g.layers.min(128);
+    let nl = g.lengths().layers.min(128);
     let ns = marks.len().min(16);
     let found = vector_store::find_nearest(
         bases,
@@ -67,42 +72,31 @@ pub fn find(
         &mut layers[..nl],
         &mut set[..ns],
         &v[..len],
-        g.d,
-        g.n,
-        g.cap,
-        g.mode,
-        k,
-        search_k,
-        spill,
+        g,
+        query,
     );
-    show_answer(rt, found.refusal, found.set)
+    show_answer(rt, found.map(|nearest| nearest.set))
 }
 
 // A line `s`: a scan for a drawn target.
 pub fn scan(
     rt: &impl Print,
     input: &mut impl Read,
-    g: Case,
+    case: Case,
     seed: &mut u32,
     marks: &[u64],
     vectors: &[u8],
 ) -> io::Result<()> {
     print!(rt; "scan")?;
     let k = shown(rt, input)? as usize;
+    let g = case.geometry;
     let mut v = [0.0f32; 64];
-    draw_vector(&mut v, g.d, seed, g.grain, g.aim);
+    draw_vector(&mut v, g.d, seed, case.grain, case.aim);
     let len = g.d.min(64);
-    let found = vector_store::full_table_scan(
-        marks,
-        vectors,
-        &v[..len],
-        g.d,
-        g.n,
-        g.cap,
-        g.mode,
-        k,
-    );
-    show_answer(rt, found.refusal, found.set)
+    show_answer(
+        rt,
+        vector_store::full_table_scan(marks, vectors, &v[..len], g, k),
+    )
 }
 
 // A line `m`.

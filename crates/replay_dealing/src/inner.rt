@@ -10,7 +10,7 @@ use std::io::Read;
 pub fn add(
     rt: &impl Print,
     input: &mut impl Read,
-    g: Case,
+    case: Case,
     seed: &mut u32,
     bases: &[f32],
     faces: &mut [u64],
@@ -19,14 +19,14 @@ pub fn add(
 ) -> io::Result<()> {
     print!(rt; "add")?;
     let m = shown(rt, input)?;
-    add_all(rt, g, m, seed, None, bases, faces, marks, vectors)?;
+    add_all(rt, case, m, seed, None, bases, faces, marks, vectors)?;
     println!(rt; "")
 }
 
 // A second index, empty at first and as long as the first, gets the additions that the first leaves out, and is merged.
 fn second(
     rt: &impl Print,
-    g: Case,
+    case: Case,
     m: u64,
     seed: &mut u32,
     left_out: usize,
@@ -46,7 +46,7 @@ fn second(
     let vectors2 = &mut vectors2[..nv];
     add_all(
         rt,
-        g,
+        case,
         m,
         seed,
         Some(left_out),
@@ -55,13 +55,22 @@ fn second(
         marks2,
         vectors2,
     )?;
-    join(rt, g, faces, marks, vectors, faces2, marks2, vectors2)
+    join(
+        rt,
+        case.geometry,
+        faces,
+        marks,
+        vectors,
+        faces2,
+        marks2,
+        vectors2,
+    )
 }
 
 // The same in memory of its own, all zeros, which is an empty index.
 fn apart(
     rt: &impl Print,
-    g: Case,
+    case: Case,
     m: u64,
     seed: &mut u32,
     left_out: usize,
@@ -72,7 +81,7 @@ fn apart(
 ) -> io::Result<()> {
     second(
         rt,
-        g,
+        case,
         m,
         seed,
         left_out,
@@ -90,7 +99,7 @@ fn apart(
 pub fn deal(
     rt: &impl Print,
     input: &mut impl Read,
-    g: Case,
+    case: Case,
     seed: &mut u32,
     bases: &[f32],
     faces: &mut [u64],
@@ -99,8 +108,14 @@ pub fn deal(
 ) -> io::Result<()> {
     print!(rt; "add")?;
     let m = shown(rt, input)?;
-    let (first, second) = if g.mode == 0 { (1, 0) } else { (0, 1) };
+    let (first, second) = if case.geometry.mode == 0 {
+        (1, 0)
+    } else {
+        (0, 1)
+    };
     let mut again = *seed;
-    add_all(rt, g, m, seed, Some(first), bases, faces, marks, vectors)?;
-    apart(rt, g, m, &mut again, second, bases, faces, marks, vectors)
+    add_all(rt, case, m, seed, Some(first), bases, faces, marks, vectors)?;
+    apart(
+        rt, case, m, &mut again, second, bases, faces, marks, vectors,
+    )
 }

@@ -1,18 +1,16 @@
 // What is drawn, and what a digest is, is stated in specs/ and proved.
 ghost use Rattle.std.specs.Prelude.{◌≡◌, length};
+ghost use Rattle.paper.specs.Refusals.{code_of};
 ghost use Rattle.replay_drawing.specs.Draws.{next_of, component_of, Draws, BasisDrawn, id_of};
 ghost use Rattle.replay_drawing.specs.Digests.{taken_of, digest_of, halves};
 
+use paper::{Geometry, Refusal};
 use recorded::inner::{high, low};
 
-// A run: its geometry, the words of its counting layers, the rounds of its bases, and what its vectors and targets are drawn with.
+// A run: its geometry, the rounds of its bases, and what its vectors and targets are drawn with.
 #[derive(Clone, Copy)]
 pub struct Case {
-    pub d: usize,
-    pub n: usize,
-    pub cap: usize,
-    pub mode: usize,
-    pub layers: usize,
+    pub geometry: Geometry,
     pub rounds: usize,
     pub grain: u16,
     pub scale: f32,
@@ -37,6 +35,7 @@ fn component(draw: u32, grain: u16, scale: f32) -> f32
 }
 
 // Draws a component for each place.
+#[tactic(auto, using(crate::proofs::Turns::draws_turn, crate::proofs::Turns::draws_end, crate::proofs::Turns::place_turn, crate::proofs::Turns::place_end))]
 pub fn draw(out: &mut [f32], seed: &mut u32, grain: u16, scale: f32)
     ensures { Draws (length out.old) seed.old grain scale out.new seed.new }
 {
@@ -53,6 +52,7 @@ pub fn draw_vector(v: &mut [f32], d: usize, seed: &mut u32, grain: u16, scale: f
 }
 
 // The id that a draw stands for.
+#[tactic(auto, unfolding(crate::specs::Draws::id_of))]
 pub fn id_of(draw: u32, cap: usize) -> usize
     ensures { result ≡ id_of draw cap }
 {
@@ -67,8 +67,8 @@ fn draw_basis(
     rounds: usize,
     seed: &mut u32,
     grain: u16,
-) -> u32
-    ensures { BasisDrawn (length basis.old) d rounds seed.old grain out.old out.new result seed.new }
+) -> Result<(), Refusal>
+    ensures { BasisDrawn (length basis.old) d rounds seed.old grain out.old out.new (code_of result) seed.new }
 {
     draw(basis, seed, grain, 0.015625);
     ortho::orthonormalize(basis, out, d, rounds)
@@ -78,25 +78,19 @@ fn draw_basis(
 pub fn draw_bases(
     bases: &mut [f32],
     basis: &mut [f32],
-    d: usize,
-    n: usize,
-    rounds: usize,
+    case: Case,
     seed: &mut u32,
-    grain: u16,
-) -> u32 {
+) -> Result<(), Refusal> {
     let size = basis.len();
     let mut rest = bases;
-    for _ in 0..n {
+    for _ in 0..case.geometry.n {
         let Some((out, after)) = rest.split_at_mut_checked(size) else {
-            return paper::WRONG_LENGTH;
+            return Err(Refusal::WrongLength);
         };
-        let refusal = draw_basis(out, basis, d, rounds, seed, grain);
-        if refusal != 0 {
-            return refusal;
-        }
+        draw_basis(out, basis, case.geometry.d, case.rounds, seed, case.grain)?;
         rest = after;
     }
-    0
+    Ok(())
 }
 
 // ---- digests
@@ -109,6 +103,7 @@ fn taken(h: u32, x: u32) -> u32
 }
 
 // The digest of words: of each the low half, then the high half.
+#[tactic(auto, using(crate::proofs::Turns::words_turn, crate::proofs::Turns::words_end))]
 pub fn digest_words(words: &[u64]) -> u32
     ensures { result ≡ digest_of 1 (halves words.now) }
 {
@@ -120,6 +115,7 @@ pub fn digest_words(words: &[u64]) -> u32
 }
 
 // The digest of bytes.
+#[tactic(auto, using(crate::proofs::Turns::bytes_turn, crate::proofs::Turns::bytes_end))]
 pub fn digest_bytes(bytes: &[u8]) -> u32
     ensures { result ≡ digest_of 1 bytes.now }
 {

@@ -1,4 +1,5 @@
 // What is drawn is put to the calls. Of these functions it is proved that they are safe and end.
+use paper::{Geometry, Refusal};
 use recorded::inner::{show_refusal, show_refused};
 use replay_drawing::inner::{Case, draw_bases, draw_vector, id_of, next_draw};
 use std::io;
@@ -6,33 +7,33 @@ use std::io;
 // ---- bases
 
 // Draws the bases, and ends the line.
-pub fn start(rt: &impl Print, g: Case, seed: &mut u32, bases: &mut [f32]) -> io::Result<()> {
+pub fn start(rt: &impl Print, case: Case, seed: &mut u32, bases: &mut [f32]) -> io::Result<()> {
     let mut basis = [0.0f32; 4096];
-    let part = bases.len().checked_div(g.n).unwrap_or(0);
+    let part = bases.len().checked_div(case.geometry.n).unwrap_or(0);
     let len = part.min(basis.len());
     let basis = &mut basis[..len];
-    let refusal = draw_bases(bases, basis, g.d, g.n, g.rounds, seed, g.grain);
-    show_refusal(rt, refusal)
+    show_refusal(rt, draw_bases(bases, basis, case, seed))
 }
 
 // ---- additions
 
 // Draws an id and a vector, and adds them; nothing is added where the id has the parity that is left out.
 fn add_one(
-    g: Case,
+    case: Case,
     seed: &mut u32,
     left_out: Option<usize>,
     bases: &[f32],
     faces: &mut [u64],
     marks: &mut [u64],
     vectors: &mut [u8],
-) -> u32 {
+) -> Result<(), Refusal> {
+    let g = case.geometry;
     *seed = next_draw(*seed);
     let id = id_of(*seed, g.cap);
     let mut v = [0.0f32; 64];
-    draw_vector(&mut v, g.d, seed, g.grain, g.scale);
+    draw_vector(&mut v, g.d, seed, case.grain, case.scale);
     if left_out == Some(id % 2) {
-        return 0;
+        return Ok(());
     }
     let mut work = [0.0f32; 64];
     let len = g.d.min(64);
@@ -43,10 +44,7 @@ fn add_one(
         vectors,
         &mut work[..len],
         &v[..len],
-        g.d,
-        g.n,
-        g.cap,
-        g.mode,
+        g,
         id,
     )
 }
@@ -54,7 +52,7 @@ fn add_one(
 // Draws m additions, and makes all but those of the parity that is left out. Shows refusals.
 pub fn add_all(
     rt: &impl Print,
-    g: Case,
+    case: Case,
     m: u64,
     seed: &mut u32,
     left_out: Option<usize>,
@@ -64,8 +62,8 @@ pub fn add_all(
     vectors: &mut [u8],
 ) -> io::Result<()> {
     for _ in 0..m {
-        let refusal = add_one(g, seed, left_out, bases, faces, marks, vectors);
-        show_refused(rt, refusal)?;
+        let answer = add_one(case, seed, left_out, bases, faces, marks, vectors);
+        show_refused(rt, answer)?;
     }
     Ok(())
 }
@@ -75,7 +73,7 @@ pub fn add_all(
 // A second index merged into the first, and once more, which is refused where it has an id. Shows refusals, and ends the lines.
 pub fn join(
     rt: &impl Print,
-    g: Case,
+    g: Geometry,
     faces: &mut [u64],
     marks: &mut [u64],
     vectors: &mut [u8],
@@ -83,13 +81,9 @@ pub fn join(
     marks2: &[u64],
     vectors2: &[u8],
 ) -> io::Result<()> {
-    let once = merging::merge(
-        faces, marks, vectors, faces2, marks2, vectors2, g.d, g.n, g.cap, g.mode,
-    );
+    let once = merging::merge(faces, marks, vectors, faces2, marks2, vectors2, g);
     show_refusal(rt, once)?;
     print!(rt; "merge")?;
-    let again = merging::merge(
-        faces, marks, vectors, faces2, marks2, vectors2, g.d, g.n, g.cap, g.mode,
-    );
+    let again = merging::merge(faces, marks, vectors, faces2, marks2, vectors2, g);
     show_refusal(rt, again)
 }

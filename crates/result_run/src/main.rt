@@ -9,11 +9,11 @@
 #![tactic(auto)]
 
 ghost use Rattle.std.specs.Prelude.{◌≡◌};
-ghost use Rattle.result.specs.Sets.{feed_of};
-ghost use Rattle.result.specs.Recalls.{told_by};
+ghost use Rattle.result.specs.Sets.{feed_of, fed_or};
 
+use paper::Refusal;
 use recorded::inner::{float, low, next_number, number, show_floats};
-use result::{Fed, Listed, Recall, ResultSet, SearchResult};
+use result::{ResultSet, SearchResult};
 use std::io;
 use std::io::Read;
 
@@ -28,17 +28,17 @@ fn score(input: &mut impl Read) -> io::Result<f32> {
 }
 
 // One feed of a set that stays in a local and is lent.
-fn fed_in_place(set: ResultSet, id: u32, similarity: f32) -> Fed
-    ensures { result ≡ feed_of set id similarity }
+fn fed_in_place(set: ResultSet, id: u32, similarity: f32) -> Result<ResultSet, Refusal>
+    ensures { fed_or set result ≡ feed_of set id similarity }
 {
     let mut kept = set;
-    let refusal = kept.add_result(id, similarity);
-    Fed { refusal, set: kept }
+    kept.add_result(id, similarity)?;
+    Ok(kept)
 }
 
 // One feed, by value or in place.
-fn fed(set: ResultSet, id: u32, similarity: f32, in_place: bool) -> Fed
-    ensures { result ≡ feed_of set id similarity }
+fn fed(set: ResultSet, id: u32, similarity: f32, in_place: bool) -> Result<ResultSet, Refusal>
+    ensures { fed_or set result ≡ feed_of set id similarity }
 {
     if in_place {
         return fed_in_place(set, id, similarity);
@@ -47,16 +47,14 @@ fn fed(set: ResultSet, id: u32, similarity: f32, in_place: bool) -> Fed
 }
 
 // The set that k, m and m entries leave; a refusal ends the feeding.
-fn grown(input: &mut impl Read, in_place: bool) -> io::Result<Fed> {
+fn grown(input: &mut impl Read, in_place: bool) -> io::Result<Result<ResultSet, Refusal>> {
     let k = number(input)? as usize;
     let m = number(input)?;
     let mut last = ResultSet::new(k);
     for _ in 0..m {
         let id = id(input)?;
         let similarity = score(input)?;
-        if last.refusal == 0 {
-            last = fed(last.set, id, similarity, in_place);
-        }
+        last = last.and_then(|set| fed(set, id, similarity, in_place));
     }
     Ok(last)
 }
@@ -88,47 +86,35 @@ fn show_entry(rt: &impl Print, e: SearchResult) -> io::Result<()> {
 }
 
 // The count, the length and the entries.
-fn show(rt: &impl Print, set: &ResultSet) -> io::Result<()> {
+fn show(rt: &impl Print, set: ResultSet) -> io::Result<()> {
     let n = set.len();
     print!(rt; "{} {n}", set.checked)?;
     for i in 0..n {
         match set.result_at(i) {
-            Listed::Here(e) => show_entry(rt, e)?,
-            Listed::Past => print!(rt; " ")?,
+            Some(e) => show_entry(rt, e)?,
+            None => print!(rt; " ")?,
         }
     }
     println!(rt; "")
 }
 
-fn show_grown(rt: &impl Print, f: Fed) -> io::Result<()> {
-    if f.refusal != 0 {
-        return println!(rt; "refused {}", f.refusal);
-    }
-    show(rt, &f.set)
-}
-
-// The refusal of a recall, and 0 for none.
-fn refusal_of(r: Recall) -> u32
-    ensures { result ≡ (told_by r).number }
-{
-    match r {
-        Recall::Share(_) => 0,
-        Recall::BadSet => 13,
-        Recall::AtZero => 14,
+fn show_grown(rt: &impl Print, answer: Result<ResultSet, Refusal>) -> io::Result<()> {
+    match answer {
+        Ok(set) => show(rt, set),
+        Err(refusal) => println!(rt; "{refusal}"),
     }
 }
 
-fn show_recall(rt: &impl Print, r: Recall) -> io::Result<()> {
-    match r {
-        Recall::Share(x) => {
+fn show_recall(rt: &impl Print, answer: Result<f64, Refusal>) -> io::Result<()> {
+    match answer {
+        Ok(x) => {
             if x.is_nan() {
                 println!(rt; "nan")
             } else {
                 println!(rt; "{:016x}", x.to_bits())
             }
         }
-        Recall::BadSet => println!(rt; "refused 13"),
-        Recall::AtZero => println!(rt; "refused 14"),
+        Err(refusal) => println!(rt; "{refusal}"),
     }
 }
 
@@ -138,12 +124,21 @@ fn yes(b: bool) -> &'static str {
 
 // ---- cases
 
+// The recall of a set against another, where both were fed.
+fn recall(
+    a: Result<ResultSet, Refusal>,
+    b: Result<ResultSet, Refusal>,
+    at: u32,
+) -> Result<f64, Refusal> {
+    a?.compute_recall(b?, at)
+}
+
 // Kind 2.
 fn recalling(rt: &impl Print, input: &mut impl Read) -> io::Result<()> {
     let at = low(number(input)?);
     let a = grown(input, false)?;
     let b = grown(input, false)?;
-    show_recall(rt, a.set.compute_recall(b.set, at))
+    show_recall(rt, recall(a, b, at))
 }
 
 // Kind 3.
@@ -152,8 +147,9 @@ fn refusing(rt: &impl Print, input: &mut impl Read) -> io::Result<()> {
     let id = id(input)?;
     let similarity = score(input)?;
     print!(rt; "{} {} ", yes(set.well_formed()), yes(set.is_empty()))?;
-    let f = set.feed(id, similarity);
-    println!(rt; "{} {} {}", f.refusal, f.set.len, f.set.checked)
+    let answer = set.feed(id, similarity);
+    let after = answer.unwrap_or(set);
+    println!(rt; "{} {} {}", paper::code(answer), after.len, after.checked)
 }
 
 // Kind 4.
@@ -161,7 +157,7 @@ fn recall_refusing(rt: &impl Print, input: &mut impl Read) -> io::Result<()> {
     let at = low(number(input)?);
     let a = made_up(input)?;
     let b = made_up(input)?;
-    println!(rt; "{}", refusal_of(a.compute_recall(b, at)))
+    println!(rt; "{}", paper::code(a.compute_recall(b, at)))
 }
 
 fn main(rt: HostRuntime) -> io::Result<()> {

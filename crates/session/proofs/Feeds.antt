@@ -1,5 +1,5 @@
 -- Laws of feed: that its bound does not matter, what a turn of its loop adds, and what each way out of it comes to. Assumes nothing.
-use mathlib.Core.Path.{◌≡◌, refl, ap, ◌∙◌, subst}
+use mathlib.Core.Path.{◌≡◌, refl, sym, ap, ◌∙◌, subst}
 use mathlib.Core.List.{List}
 use mathlib.Core.Bool.{true, false}
 use Prim.Native.Nat.{ℕ, zero, suc, ◌+◌, ◌-◌, ◌≤◌, ◌<◌}
@@ -10,13 +10,13 @@ use lib.Seq.{sets, take_all, drop-drop, length-sets}
 use lib.Dec.{ltb}
 use borrow.Author.Tests.{lt-ltb, le-ltb}
 use Rattle.paper.specs.Choice.{pick}
-use Rattle.lines.specs.Lines.{Put, told}
-use Rattle.lines.specs.declared.Told.TheVariants as Says
+use Rattle.lines.specs.Lines.{Put, refused_line}
 use Rattle.steps.specs.Steps.{State, step_of, Stepped}
 use Rattle.steps.proofs.Cases.{step_short}
-use Rattle.session.specs.declared.Frame.{Frame}
-use Rattle.session.specs.declared.Frame.TheVariants.{Whole, Bad, Part}
-use Rattle.session.specs.Runs.{frame_of, record_of, Far, fed, turn, feed_to, feed_of}
+use Rattle.std.proofs.Common.{Ok, Err, Some, None}
+use Rattle.paper.specs.Refusals.{number_of}
+use Rattle.paper.specs.declared.Refusal.{Refusal}
+use Rattle.session.specs.Runs.{Frame, frame_of, record_of, Far, fed, turn, feed_to, feed_of}
 use Rattle.session.proofs.Frames.{framed}
 
 -- ---- enough turns are enough
@@ -24,9 +24,9 @@ use Rattle.session.proofs.Frames.{framed}
 turn_enough : (f : Frame) (j k : ℕ) (s : List ℕ) (i p : ℕ) (st : State) (out : List ℕ) → frame_of s ≡ f → length s < suc j → length s < suc k
     → ((t : List ℕ) (a b : ℕ) (u : State) (o : List ℕ) → length t < j → length t < k → feed_to j t a b u o ≡ feed_to k t a b u o)
     → turn f (feed_to j) s i p st out ≡ turn f (feed_to k) s i p st out
-turn_enough Bad j k s i p st out e h l again = refl
-turn_enough Part j k s i p st out e h l again = refl
-turn_enough (Whole n) j k s i p st out e h l again =
+turn_enough (Err r) j k s i p st out e h l again = refl
+turn_enough (Ok None) j k s i p st out e h l again = refl
+turn_enough (Ok (Some n)) j k s i p st out e h l again =
     let f = framed s n e in
     let d : length (drop (4 + n) s) ≡ length s - (4 + n) = length-drop (4 + n) s in
     let o = step_of (record_of n s) st in
@@ -51,8 +51,11 @@ pub going_start : (input : List ℕ) (st : State) (out : List ℕ) → Going inp
 unfolding feed_of
 going_start input st out = record { within = omega arith; room = omega arith; so_far = refl }
 
-pub rest_is : (input : List ℕ) (i : ℕ) → take (length input - i) (drop i input) ≡ drop i input
+rest_is : (input : List ℕ) (i : ℕ) → take (length input - i) (drop i input) ≡ drop i input
 rest_is input i = take_all (length input - i) (drop i input) (simp length-drop (omega arith))
+
+pub front_is : (input : List ℕ) (i : ℕ) (a b : Frame) → a ≡ frame_of (take (length input - i) (drop i input)) → a ≡ b → frame_of (drop i input) ≡ b
+front_is input i a b e f = ap frame_of (sym (rest_is input i)) ∙ sym e ∙ f
 
 pub record_is : (input : List ℕ) (i n from to : ℕ) → from ≡ i + 4 → to ≡ from + n → take (to - from) (drop from input) ≡ record_of n (drop i input)
 record_is input i n from to e f =
@@ -60,7 +63,7 @@ record_is input i n from to e f =
     rw (a, drop-drop 4 i input, e) refl
 
 module _ (input : List ℕ) (from : State) (old : List ℕ) (i p : ℕ) (st : State) (out : List ℕ) (k : Going input from old i p st out) where
-  pub going_room : (n : ℕ) → frame_of (drop i input) ≡ Whole n → (i + 4 + n ≤ length input) × (2 ≤ n) × (n ≤ 512)
+  pub going_room : (n : ℕ) → frame_of (drop i input) ≡ Ok (Some n) → (i + 4 + n ≤ length input) × (2 ≤ n) × (n ≤ 512)
   going_room n e =
       let f = framed (drop i input) n e in
       (omega (arith, f.long, length-drop i input, k.within), f.low, f.high)
@@ -74,13 +77,13 @@ module _ (input : List ℕ) (from : State) (old : List ℕ) (i p : ℕ) (st : St
     unfolding feed_to
     turned = rw (le-ltb (length out - p) 5184 h) at k.so_far
 
-    pub ends_part : frame_of (drop i input) ≡ Part → fed st i p false true out ≡ feed_of input from old
+    pub ends_part : frame_of (drop i input) ≡ Ok None → fed st i p false true out ≡ feed_of input from old
     ends_part e = rw e at turned
 
-    pub ends_bad : (new : List ℕ) (r : ℕ) → frame_of (drop i input) ≡ Bad → Put out new p r (told (Says.Refused 15)) → fed st i r true false new ≡ feed_of input from old
-    ends_bad new r e u = rw (u.next, u.stored) (rw e at turned)
+    pub ends_bad : (new : List ℕ) (r : ℕ) (f : Refusal) → frame_of (drop i input) ≡ Err f → Put out new p r (refused_line (number_of f)) → fed st i r true false new ≡ feed_of input from old
+    ends_bad new r f e u = rw (u.next, u.stored) (rw e at turned)
 
-    pub going_turn : (n : ℕ) (s : List ℕ) (st' : State) (new : List ℕ) (r : ℕ) → frame_of (drop i input) ≡ Whole n → s ≡ record_of n (drop i input)
+    pub going_turn : (n : ℕ) (s : List ℕ) (st' : State) (new : List ℕ) (r : ℕ) → frame_of (drop i input) ≡ Ok (Some n) → s ≡ record_of n (drop i input)
         → Stepped s st st' out new p r → Going input from old (i + 4 + n) r st' new
     going_turn n s st' new r e q d =
         let room = going_room n e in

@@ -10,14 +10,14 @@ use lib.Seq.{sets, sets-eq, take_at, drop-drop, length-sets, length-take-le}
 use lib.Dec.{ltb}
 use borrow.Author.Tests.{le-ltb, ltb-false}
 use Rattle.paper.specs.Choice.{pick}
-use Rattle.lines.specs.Lines.{told}
-use Rattle.lines.specs.declared.Told.TheVariants as Says
-use Rattle.lines.proofs.Texts.{told_short}
+use Rattle.lines.specs.Lines.{refused_line}
+use Rattle.lines.proofs.Texts.{refused_short}
 use Rattle.steps.specs.Steps.{State, step_of}
 use Rattle.steps.proofs.Cases.{step_short}
-use Rattle.session.specs.declared.Frame.{Frame}
-use Rattle.session.specs.declared.Frame.TheVariants.{Whole, Bad, Part}
-use Rattle.session.specs.Runs.{frame_of, record_of, run, Far, fed, turn, feed_to, feed_of}
+use Rattle.std.proofs.Common.{Ok, Err, Some, None}
+use Rattle.paper.specs.Refusals.{number_of}
+use Rattle.paper.specs.declared.Refusal.{Refusal}
+use Rattle.session.specs.Runs.{Frame, frame_of, record_of, run, Far, fed, turn, feed_to, feed_of}
 use Rattle.session.specs.Played.{shown, left, joined, Played, stopped, emptied, refilled, ended}
 use Rattle.session.proofs.Frames.{framed}
 use Rattle.session.proofs.Runs.{run_whole, run_bad, run_end}
@@ -38,11 +38,11 @@ record From (s : List ℕ) (i p : ℕ) (st : State) (out : List ℕ) (f : Far) :
   pub put : f.put ≤ length f.out
   pub stopped : f.stops ≡ true → (more : List ℕ) → take p out ++ run (s ++ more) st ≡ shown f
   pub goes : f.stops ≡ false → (more : List ℕ) → take p out ++ run (s ++ more) st ≡ shown f ++ run (drop (f.used - i) s ++ more) f.state
-  pub waits : f.waits ≡ true → frame_of (drop (f.used - i) s) ≡ Part
+  pub waits : f.waits ≡ true → frame_of (drop (f.used - i) s) ≡ Ok None
 
 module _ (s : List ℕ) (i p : ℕ) (st : State) (out : List ℕ) where
   -- nothing more was done
-  rests : (w : Bool) → p ≤ length out → (w ≡ true → frame_of s ≡ Part) → From s i p st out (fed st i p false w out)
+  rests : (w : Bool) → p ≤ length out → (w ≡ true → frame_of s ≡ Ok None) → From s i p st out (fed st i p false w out)
   rests w h e = record {
     low = omega arith;
     high = omega arith;
@@ -52,22 +52,22 @@ module _ (s : List ℕ) (i p : ℕ) (st : State) (out : List ℕ) where
     waits = λ q. rw (sub_self i) (e q);
   }
 
-  fails : frame_of s ≡ Bad → p + 64 ≤ length out
-      → From s i p st out (fed st i (p + length (told (Says.Refused 15))) true false (sets out p (told (Says.Refused 15))))
-  fails e h =
-      let t = told (Says.Refused 15) in
-      let l : length t ≤ 64 = told_short (Says.Refused 15) in
+  fails : (r : Refusal) → frame_of s ≡ Err r → p + 64 ≤ length out
+      → From s i p st out (fed st i (p + length (refused_line (number_of r))) true false (sets out p (refused_line (number_of r))))
+  fails r e h =
+      let t = refused_line (number_of r) in
+      let l : length t ≤ 64 = refused_short (number_of r) in
       let n : length (sets out p t) ≡ length out = length-sets out p t in
       record {
         low = omega arith;
         high = omega arith;
         put = omega arith;
-        stopped = λ _ more. ap (λ (x : List ℕ). take p out ++ x) (run_bad s more st e) ∙ sym (front_set out t p (omega arith));
+        stopped = λ _ more. ap (λ (x : List ℕ). take p out ++ x) (run_bad s more st r e) ∙ sym (front_set out t p (omega arith));
         goes = λ no. impossible (sym no);
         waits = λ no. impossible no;
       }
 
-  passes : (n : ℕ) (f : Far) → frame_of s ≡ Whole n → p + 5184 ≤ length out
+  passes : (n : ℕ) (f : Far) → frame_of s ≡ Ok (Some n) → p + 5184 ≤ length out
       → From (drop (4 + n) s) (i + (4 + n)) (p + length (step_of (record_of n s) st).0) (step_of (record_of n s) st).1 (sets out p (step_of (record_of n s) st).0) f
       → From s i p st out f
   passes n f e h k =
@@ -88,7 +88,7 @@ module _ (s : List ℕ) (i p : ℕ) (st : State) (out : List ℕ) where
         put = k.put;
         stopped = λ q more. begin more ∙ k.stopped q more;
         goes = λ q more. begin more ∙ k.goes q more ∙ ap (λ (x : List ℕ). shown f ++ run (x ++ more) f.state) same;
-        waits = λ q. subst (λ (x : List ℕ). frame_of x ≡ Part) same (k.waits q);
+        waits = λ q. subst (λ (x : List ℕ). frame_of x ≡ Ok None) same (k.waits q);
       }
     where
       gap : (n u : ℕ) → i + (4 + n) ≤ u → 4 + n + (u - (i + (4 + n))) ≡ u - i
@@ -102,9 +102,9 @@ fed_from (suc k) s i p st out h l = by_room (ltb (length out - p) 5184) refl (λ
     by_frame : (f : Frame) → frame_of s ≡ f → p + 5184 ≤ length out
         → ((t : List ℕ) (a b : ℕ) (u : State) (o : List ℕ) → length t < k → b ≤ length o → From t a b u o (feed_to k t a b u o))
         → From s i p st out (turn f (feed_to k) s i p st out)
-    by_frame Part e r again = rests s i p st out true l (λ _. e)
-    by_frame Bad e r again = fails s i p st out e (omega arith)
-    by_frame (Whole n) e r again =
+    by_frame (Ok None) e r again = rests s i p st out true l (λ _. e)
+    by_frame (Err f) e r again = fails s i p st out f e (omega arith)
+    by_frame (Ok (Some n)) e r again =
         let o = step_of (record_of n s) st in
         let long : 4 + n ≤ length s = (framed s n e).long in
         let d : length (drop (4 + n) s) ≡ length s - (4 + n) = length-drop (4 + n) s in
@@ -126,7 +126,7 @@ pub record Run (input : List ℕ) (st : State) (f : Far) : Type 0 where
   pub put : f.put ≤ length f.out
   pub stopped : f.stops ≡ true → (more : List ℕ) → run (input ++ more) st ≡ shown f
   pub goes : f.stops ≡ false → (more : List ℕ) → run (input ++ more) st ≡ shown f ++ run (left f input ++ more) f.state
-  pub waits : f.waits ≡ true → frame_of (left f input) ≡ Part
+  pub waits : f.waits ≡ true → frame_of (left f input) ≡ Ok None
 
 pub fed_run : (input : List ℕ) (st : State) (out : List ℕ) → Run input st (feed_of input st out)
 unfolding feed_of
@@ -172,9 +172,9 @@ any_cut st reads reads' text text' e p q = whole [] st reads text p ∙ ap (λ (
 turn_moves : (f : Frame) (input : List ℕ) (st : State) (out : List ℕ) → frame_of input ≡ f → 5184 ≤ length out
     → (turn f (feed_to (length input)) input 0 0 st out).stops ≡ false → (turn f (feed_to (length input)) input 0 0 st out).waits ≡ false
     → 0 < (turn f (feed_to (length input)) input 0 0 st out).used
-turn_moves Part input st out e h s w = impossible (sym w)
-turn_moves Bad input st out e h s w = impossible (sym s)
-turn_moves (Whole n) input st out e h s w =
+turn_moves (Ok None) input st out e h s w = impossible (sym w)
+turn_moves (Err r) input st out e h s w = impossible (sym s)
+turn_moves (Ok (Some n)) input st out e h s w =
     let o = step_of (record_of n input) st in
     let long : 4 + n ≤ length input = (framed input n e).long in
     let d : length (drop (4 + n) input) ≡ length input - (4 + n) = length-drop (4 + n) input in

@@ -1,11 +1,9 @@
 -- The laws of a run: however its input comes in, the program prints the same, and it comes to its end.
-use Rattle.std.specs.Prelude.{ℕ, ◌+◌, ◌≤◌, ◌<◌, ◌≡◌, true, false, List, [], ◌++◌, length, drop}
+use Rattle.std.specs.Prelude.{ℕ, ◌+◌, ◌≤◌, ◌<◌, ◌≡◌, true, false, List, [], ◌++◌, length, drop, Ok, Some}
 use Rattle.records.specs.Fields.{u16_at}
-use Rattle.lines.specs.Lines.{told}
-use Rattle.lines.specs.declared.Told.TheVariants as Says
+use Rattle.lines.specs.Lines.{refused_line}
 use Rattle.steps.specs.Steps.{State, held, start_of}
 use Rattle.steps.specs.Laws.{Reached, Unknown}
-use Rattle.session.specs.declared.Frame.TheVariants.{Whole}
 use Rattle.session.specs.Runs.{frame_of, record_of, run, printed, feed_of}
 use Rattle.session.specs.Played.{joined, Played}
 
@@ -15,8 +13,8 @@ pub record Laws : Type 0 where
   -- from the start: the program prints `printed` of its input
   pub whole_run : (reads : List (List ℕ)) (text : List ℕ) → Played [] (held start_of) reads text → text ≡ printed (joined reads)
   -- in a run an unknown kind prints refused 15, never 1, and the run goes on behind it from the same state
-  pub run_unknown : (s : List ℕ) (n : ℕ) (st : State) → Reached st → frame_of s ≡ Whole n → Unknown (u16_at (record_of n s) 0)
-      → run s st ≡ told (Says.Refused 15) ++ run (drop (4 + n) s) st
+  pub run_unknown : (s : List ℕ) (n : ℕ) (st : State) → Reached st → frame_of s ≡ Ok (Some n) → Unknown (u16_at (record_of n s) 0)
+      → run s st ≡ refused_line 15 ++ run (drop (4 + n) s) st
   -- the pieces in which the input comes do not matter
   pub any_cut : (st : State) (reads reads' : List (List ℕ)) (text text' : List ℕ) → joined reads ≡ joined reads' → Played [] st reads text → Played [] st reads' text' → text ≡ text'
   -- with a buffer that has room for the longest answer, every finite input, in whatever pieces, is played to its end

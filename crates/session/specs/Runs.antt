@@ -1,22 +1,29 @@
 -- What a whole run prints, and how far one call of feed brings it (01, "The search program").
-use Rattle.std.specs.Prelude.{ℕ, zero, suc, ◌+◌, ◌-◌, Bool, true, false, List, [], ◌∷◌, ◌++◌, length, take, drop, ltb}
+use Rattle.std.specs.Prelude.{ℕ, zero, suc, ◌+◌, ◌-◌, Bool, true, false, List, [], ◌∷◌, ◌++◌, length, take, drop, ltb, Result, Ok, Err, Option, Some, None}
 use Rattle.std.proofs.lemmas.List.Edits.{sets}
 use Rattle.paper.specs.Choice.{pick}
 use Rattle.records.specs.Fields.{u32_at}
-use Rattle.lines.specs.Lines.{told}
-use Rattle.lines.specs.declared.Told.TheVariants as Says
+use Rattle.paper.specs.Refusals.{number_of}
+use Rattle.paper.specs.declared.Refusal.{Refusal}
+use Rattle.paper.specs.declared.Refusal.TheVariants.{BadRecord}
+use Rattle.lines.specs.Lines.{refused_line}
 use Rattle.steps.specs.Steps.{State, held, start_of, step_of}
-use Rattle.session.specs.declared.Frame.{Frame}
-use Rattle.session.specs.declared.Frame.TheVariants.{Whole, Bad, Part}
+use Rattle.session.specs.declared.Next.{Next}
+use Rattle.session.specs.declared.Next.TheVariants.{Feed, Read, Stop}
 
--- ---- a frame: four bytes of length, and as many bytes as it says; a length below 2 or above 512 is bad
+-- ---- a frame: four bytes of length, and as many bytes as it says
 
+-- a whole record of so many bytes behind its length; none, too little to say; or a refusal
+abbrev pub Frame : Type 0
+Frame = Result (Option ℕ) Refusal
+
+-- a length below 2 or above 512 is refused
 unfoldable pub frame_of : List ℕ → Frame
 frame_of s =
-    pick (ltb (length s) 4) Part
-    (pick (ltb (u32_at s 0) 2) Bad
-    (pick (ltb 512 (u32_at s 0)) Bad
-    (pick (ltb (length s - 4) (u32_at s 0)) Part (Whole (u32_at s 0)))))
+    pick (ltb (length s) 4) (Ok None)
+    (pick (ltb (u32_at s 0) 2) (Err BadRecord)
+    (pick (ltb 512 (u32_at s 0)) (Err BadRecord)
+    (pick (ltb (length s - 4) (u32_at s 0)) (Ok None) (Ok (Some (u32_at s 0))))))
 
 -- the n bytes behind the length
 abbrev pub record_of : ℕ → List ℕ → List ℕ
@@ -27,13 +34,13 @@ record_of n s = take n (drop 4 s)
 -- what is left where the input ends: nothing, or a cut record
 abbrev pub end_text : List ℕ → List ℕ
 end_text [] = []
-end_text (b ∷ s) = told (Says.Refused 15)
+end_text (b ∷ s) = refused_line 15
 
 -- a whole record prints what it comes to, and the run goes on behind it; a bad frame and the end stop the run
 abbrev pub go : Frame → (List ℕ → State → List ℕ) → List ℕ → State → List ℕ
-go (Whole n) rest s st = let o = step_of (record_of n s) st in o.0 ++ rest (drop (4 + n) s) o.1
-go Bad rest s st = told (Says.Refused 15)
-go Part rest s st = end_text s
+go (Ok (Some n)) rest s st = let o = step_of (record_of n s) st in o.0 ++ rest (drop (4 + n) s) o.1
+go (Err r) rest s st = refused_line (number_of r)
+go (Ok None) rest s st = end_text s
 
 -- at most k records
 unfoldable pub run_to : ℕ → List ℕ → State → List ℕ
@@ -64,11 +71,11 @@ fed st i p stops waits out = record { state = st; used = i; put = p; stops = sto
 
 -- one turn, at the front of what is left of the input
 abbrev pub turn : Frame → (List ℕ → ℕ → ℕ → State → List ℕ → Far) → List ℕ → ℕ → ℕ → State → List ℕ → Far
-turn (Whole n) rest s i p st out =
+turn (Ok (Some n)) rest s i p st out =
     let o = step_of (record_of n s) st in
     rest (drop (4 + n) s) (i + (4 + n)) (p + length o.0) o.1 (sets out p o.0)
-turn Bad rest s i p st out = let t = told (Says.Refused 15) in fed st i (p + length t) true false (sets out p t)
-turn Part rest s i p st out = fed st i p false true out
+turn (Err r) rest s i p st out = let t = refused_line (number_of r) in fed st i (p + length t) true false (sets out p t)
+turn (Ok None) rest s i p st out = fed st i p false true out
 
 -- at most k records, with i bytes used and p put before; out wants room for the longest answer
 unfoldable pub feed_to : ℕ → List ℕ → ℕ → ℕ → State → List ℕ → Far
@@ -77,3 +84,15 @@ feed_to (suc k) s i p st out = pick (ltb (length out - p) 5184) (fed st i p fals
 
 unfoldable pub feed_of : List ℕ → State → List ℕ → Far
 feed_of input st out = feed_to (suc (length input)) input 0 0 st out
+
+-- ---- what comes next, by its two tests
+
+abbrev pub is_stop : Next → Bool
+is_stop Stop = true
+is_stop Feed = false
+is_stop Read = false
+
+abbrev pub is_read : Next → Bool
+is_read Read = true
+is_read Feed = false
+is_read Stop = false

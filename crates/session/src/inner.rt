@@ -1,31 +1,32 @@
 // A part of a run over lent memory, whose lengths the caller sees to; and the buffer that the input is read into.
-ghost use Rattle.std.specs.Prelude.{◌≡◌, ◌+◌, ◌-◌, ◌≤◌, length, take, drop};
+ghost use Rattle.std.specs.Prelude.{◌≡◌, ◌+◌, ◌-◌, ◌≤◌, length, take, drop, IfOk, IfSome};
 ghost use Rattle.steps.specs.Memory.{Memory, memory_of};
 ghost use Rattle.steps.specs.Steps.{state_of};
-ghost use Rattle.session.specs.Runs.{frame_of, fed, feed_of};
+ghost use Rattle.session.specs.Runs.{frame_of, fed, feed_of, is_stop, is_read};
 
-use super::{Fed, Frame};
+use super::{Fed, Next};
 use lines::Told;
+use paper::Refusal;
 use records::Session;
 
-// A length of 2 to 512 is good. What is shorter than its length says may be cut, or still to come.
-fn front(s: &[u8]) -> Frame
-    ensures { result ≡ frame_of s.now }
+// The length of the record at the front, and none where what stands there is shorter than its length says: it may be cut, or still to come.
+// A length of 2 to 512 is good, and others are refused with 15.
+#[tactic(auto, unfolding(crate::specs::Runs::frame_of))]
+fn front(s: &[u8]) -> Result<Option<usize>, Refusal>
+    ensures told { result ≡ frame_of s.now }
+    ensures whole { IfOk result (λ o. IfSome o (λ n. (4 + n ≤ length s.now) × (2 ≤ n))) }
 {
     if s.len() < 4 {
-        return Frame::Part;
+        return Ok(None);
     }
     let n = records::inner::u32_at(s, 0) as usize;
-    if n < 2 {
-        return Frame::Bad;
-    }
-    if 512 < n {
-        return Frame::Bad;
+    if n < 2 || 512 < n {
+        return Err(Refusal::BadRecord);
     }
     if s.len() - 4 < n {
-        return Frame::Part;
+        return Ok(None);
     }
-    Frame::Whole(n)
+    Ok(Some(n))
 }
 
 // Takes the records at the front of the input, as long as they are whole and out has room for the longest answer.
@@ -39,7 +40,7 @@ pub fn feed(
     out: &mut [u8],
 ) -> Fed
     requires { Memory (length bases.old) (length faces.old) (length marks.old) (length vectors.old) }
-    ensures { fed (state_of result.session (memory_of bases.new faces.new marks.new vectors.new)) result.used result.put result.stops result.waits out.new
+    ensures { fed (state_of result.session (memory_of bases.new faces.new marks.new vectors.new)) result.used result.put (is_stop result.next) (is_read result.next) out.new
         ≡ feed_of input.now (state_of start (memory_of bases.old faces.old marks.old vectors.old)) out.old }
 {
     let mut g = start;
@@ -48,26 +49,24 @@ pub fn feed(
     // No `for`: how many records there are shows only as their lengths are read, and they stop where out is full.
     while 5184 <= out.len() - p {
         let n = match front(&input[i..]) {
-            Frame::Part => {
+            Ok(Some(n)) => n,
+            Ok(None) => {
                 return Fed {
                     session: g,
                     used: i,
                     put: p,
-                    stops: false,
-                    waits: true,
+                    next: Next::Read,
                 };
             }
-            Frame::Bad => {
-                let q = lines::inner::put_told(out, p, Told::Refused(15));
+            Err(refusal) => {
+                let q = lines::inner::put_told(out, p, Told::Refused(refusal));
                 return Fed {
                     session: g,
                     used: i,
                     put: q,
-                    stops: true,
-                    waits: false,
+                    next: Next::Stop,
                 };
             }
-            Frame::Whole(n) => n,
         };
         let from = i + 4;
         let to = from + n;
@@ -80,8 +79,7 @@ pub fn feed(
         session: g,
         used: i,
         put: p,
-        stops: false,
-        waits: false,
+        next: Next::Feed,
     }
 }
 

@@ -4,31 +4,31 @@
 ghost use Rattle.std.specs.Prelude.{◌≡◌, replicate};
 ghost use Rattle.lines.specs.Lines.{Put};
 ghost use Rattle.steps.specs.Steps.{held};
-ghost use Rattle.session.specs.Runs.{end_text, fed, feed_of};
+ghost use Rattle.session.specs.Runs.{end_text, fed, feed_of, is_stop, is_read};
 ghost use Rattle.session.specs.Laws.{Laws};
 
 use lines::Told;
+use paper::Refusal;
 use records::Session;
 use steps::Store;
 
 pub mod inner;
 
-// What stands at the front of the bytes that are there: a whole record of so many bytes after its length, a bad length, or too little to say.
-#[derive(Clone, Copy)]
-pub enum Frame {
-    Whole(usize),
-    Bad,
-    Part,
+// What a program does next, when it has written what feed has put: it feeds the rest, where out was full; it reads more; or it stops.
+#[derive(Clone, Copy, Debug, PartialEq, Eq)]
+pub enum Next {
+    Feed,
+    Read,
+    Stop,
 }
 
-// How far a run has come: how much was taken from the input and put into out, whether the run stops here, and whether it waits for input.
+// How far a run has come: how much was taken from the input and put into out, and what comes next.
 #[derive(Clone, Copy)]
 pub struct Fed {
     pub session: Session,
     pub used: usize,
     pub put: usize,
-    pub stops: bool,
-    pub waits: bool,
+    pub next: Next,
 }
 
 // The same with all of the program's state.
@@ -37,8 +37,7 @@ pub struct Ran {
     pub store: Store,
     pub used: usize,
     pub put: usize,
-    pub stops: bool,
-    pub waits: bool,
+    pub next: Next,
 }
 
 // What the end of the input prints: the first len bytes of text.
@@ -51,40 +50,24 @@ pub struct Last {
 // Takes the records at the front of the input, one after another, and prints what they come to into out. It ends at a bad length, which it
 // prints and stops the run for; where the rest of the input is no whole record, which it leaves; and where out has less room than the longest
 // answer of one record needs, 5,184 bytes. It refuses nothing by itself, and changes out only where it has put something.
-pub fn feed(input: &[u8], store: Store, out: &mut [u8]) -> Ran
-    ensures { fed (held result.store) result.used result.put result.stops result.waits out.new ≡ feed_of input.now (held store) out.old }
+pub fn feed(input: &[u8], mut store: Store, out: &mut [u8]) -> Ran
+    ensures { fed (held result.store) result.used result.put (is_stop result.next) (is_read result.next) out.new ≡ feed_of input.now (held store) out.old }
 {
-    let session = store.session;
-    let mut bases = store.bases;
-    let mut faces = store.faces;
-    let mut marks = store.marks;
-    let mut vectors = store.vectors;
-    let f = inner::feed(
+    let fed = inner::feed(
         input,
-        session,
-        &mut bases,
-        &mut faces,
-        &mut marks,
-        &mut vectors,
+        store.session,
+        &mut store.bases,
+        &mut store.faces,
+        &mut store.marks,
+        &mut store.vectors,
         out,
     );
-    let after = f.session;
-    let used = f.used;
-    let put = f.put;
-    let stops = f.stops;
-    let waits = f.waits;
+    store.session = fed.session;
     Ran {
-        store: Store {
-            session: after,
-            bases,
-            faces,
-            marks,
-            vectors,
-        },
-        used,
-        put,
-        stops,
-        waits,
+        store,
+        used: fed.used,
+        put: fed.put,
+        next: fed.next,
     }
 }
 
@@ -93,10 +76,10 @@ pub fn finish(rest: &[u8]) -> Last
     ensures { Put (replicate 64 0) result.text 0 result.len (end_text rest.now) }
 {
     let mut text = [0u8; 64];
-    if rest.len() == 0 {
+    if rest.is_empty() {
         return Last { text, len: 0 };
     }
-    let len = lines::inner::put_told(&mut text, 0, Told::Refused(15));
+    let len = lines::inner::put_told(&mut text, 0, Told::Refused(Refusal::BadRecord));
     Last { text, len }
 }
 

@@ -6,43 +6,43 @@
 //                   o or, x xor, d and_not; these three show both memories
 #![tactic(auto)]
 
-use bitmaps::{Asked, Counted, Walked};
+use paper::Refusal;
 use recorded::inner::{fill, letter, number, show_all};
 use std::io;
 use std::io::Read;
 
-fn show_asked(rt: &impl Print, answer: Asked) -> io::Result<()> {
+fn show_asked(rt: &impl Print, answer: Result<bool, Refusal>) -> io::Result<()> {
     match answer {
-        Asked::Is(true) => print!(rt; "yes"),
-        Asked::Is(false) => print!(rt; "no"),
-        Asked::Refused(f) => print!(rt; "refused {f}"),
+        Ok(true) => print!(rt; "yes"),
+        Ok(false) => print!(rt; "no"),
+        Err(refusal) => print!(rt; "{refusal}"),
     }
 }
 
-fn show_counted(rt: &impl Print, answer: Counted) -> io::Result<()> {
+fn show_counted(rt: &impl Print, answer: Result<u32, Refusal>) -> io::Result<()> {
     match answer {
-        Counted::Ids(n) => print!(rt; "{n}"),
-        Counted::Refused(f) => print!(rt; "refused {f}"),
+        Ok(n) => print!(rt; "{n}"),
+        Err(refusal) => print!(rt; "{refusal}"),
     }
 }
 
-fn show_walked(rt: &impl Print, answer: Walked) -> io::Result<()> {
+fn show_walked(rt: &impl Print, answer: Result<Option<usize>, Refusal>) -> io::Result<()> {
     match answer {
-        Walked::At(i) => print!(rt; "at {i}"),
-        Walked::Nothing => print!(rt; "nothing"),
-        Walked::Refused(f) => print!(rt; "refused {f}"),
+        Ok(Some(i)) => print!(rt; "at {i}"),
+        Ok(None) => print!(rt; "nothing"),
+        Err(refusal) => print!(rt; "{refusal}"),
     }
 }
 
 // A call that changes the first memory: its number and the words after it.
-fn show_changed(rt: &impl Print, f: u32, words: &[u64]) -> io::Result<()> {
-    print!(rt; "{f}")?;
+fn show_changed(rt: &impl Print, answer: Result<(), Refusal>, words: &[u64]) -> io::Result<()> {
+    print!(rt; "{}", paper::code(answer))?;
     show_all(rt, words, 1)
 }
 
 // The same of a call on both memories, and the words of the second.
-fn show_both(rt: &impl Print, f: u32, a: &[u64], b: &[u64]) -> io::Result<()> {
-    show_changed(rt, f, a)?;
+fn show_both(rt: &impl Print, answer: Result<(), Refusal>, a: &[u64], b: &[u64]) -> io::Result<()> {
+    show_changed(rt, answer, a)?;
     show_all(rt, b, 1)
 }
 

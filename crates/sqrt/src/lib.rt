@@ -63,6 +63,7 @@ fn whole_root(a: u64) -> u64
     let g = guess(a);
     let mut lo = not_above(a, g - 1);
     let mut hi = above(a, g + 1);
+    // a span that halves, so no `for`
     let root = loop {
         if hi - lo <= 1 {
             break lo;

@@ -1,4 +1,5 @@
 -- What each kind of record comes to. Assumes nothing.
+use Rattle.std.proofs.Common.{Result, Ok, Err, IfOk}
 use mathlib.Core.Path.{◌≡◌, refl, sym, ap, ◌∙◌, subst}
 use mathlib.Core.List.{List, ◌++◌}
 use mathlib.Core.Bool.{Bool, true, false}
@@ -12,25 +13,25 @@ use borrow.Author.Tests.{eq-eqb, ne_eqb, leb-true}
 use Rattle.paper.specs.Choice.{pick}
 use Rattle.paper.proofs.Choice.{and_l, and_r}
 use Rattle.paper.specs.Geometry.{Geo, set_words, bases_len, face_words, vector_bytes}
-use Rattle.records.specs.Requests.{Limits, request_of}
+use Rattle.paper.specs.Refusals.{number_of}
+use Rattle.paper.specs.declared.Refusal.{Refusal}
+use Rattle.records.specs.Requests.{Limits, Asked, request_of}
 use Rattle.records.specs.Fields.{floats_at}
 use Rattle.records.specs.declared.Session.{Session}
-use Rattle.records.specs.declared.Request.{Request}
 use Rattle.records.specs.declared.Request.TheVariants as Asks
 use Rattle.records.proofs.Floats.{floats_length}
-use Rattle.lines.specs.Lines.{Put, told, listing}
+use Rattle.lines.specs.Lines.{Put, refused_line, told}
 use Rattle.lines.specs.declared.Told.TheVariants as Says
-use Rattle.lines.proofs.Texts.{told_short, listing_length}
+use Rattle.lines.proofs.Texts.{refused_short, told_short, listing_length}
 use Rattle.index_memory.specs.Memory.{Ix, ix_of}
 use Rattle.adding.specs.Adding.{added, add_of}
-use Rattle.vector_store.specs.Search.{Work, works, Searched, searched, search_of}
-use Rattle.vector_store.specs.declared.Nearest.{Nearest}
+use Rattle.vector_store.specs.Search.{Nearest, told_of, Work, works, Searched, searched, search_of}
+use Rattle.vector_store.specs.declared.Nearest as Rust
 use Rattle.vector_store.proofs.Answers.{search_sound}
-use Rattle.result.specs.Sets.{well_formed}
+use Rattle.result.specs.Sets.{well_formed, Sound}
 use Rattle.result.specs.declared.ResultSet.{ResultSet}
-use Rattle.result.proofs.Keeps.{Sound}
 use Rattle.steps.specs.Memory.{Mem, memory_of, geo_of, zero_f, added_by, added_of, found_by, found_of}
-use Rattle.steps.specs.Steps.{State, state_of, found_text, closed, perform, step_of, Stepped}
+use Rattle.steps.specs.Steps.{State, state_of, listed, found_text, closed, perform, step_of, Stepped}
 use Rattle.steps.proofs.Room.{taken, front_same, part_set, few_words, few_layers}
 
 -- ---- a search lists at most 256
@@ -50,21 +51,27 @@ listed_few g bs ix t k wanted spill m = sound_few _ (search_sound g bs ix t k wa
 
 module _ (g : Session) (m : Mem) (nb nf nm nv : ℕ) (eb : nb ≡ bases_len g.d g.n) (ef : nf ≡ face_words g.d g.n g.cap)
     (em : nm ≡ set_words g.cap) (ev : nv ≡ vector_bytes g.d g.cap g.mode) where
-  pub add_is : (v work : List Float) (id r : ℕ) (f' m' v' : List ℕ) (w' : List Float)
-      → added r (ix_of f' m' v') w' ≡ add_of (geo_of g) (take nb m.bases) id v (ix_of (take nf m.ix.faces) (take nm m.ix.marks) (take nv m.ix.vecs)) work
-      → added_by v work g id m ≡ (r, memory_of m.bases (f' ++ drop nf m.ix.faces) (m' ++ drop nm m.ix.marks) (v' ++ drop nv m.ix.vecs))
-  unfolding added_by
-  add_is v work id r f' m' v' w' e = rw (← eb, ← ef, ← em, ← ev, ← e) refl
+  module _ (x : Geo) (ex : x ≡ geo_of g) where
+    pub add_is : (v work : List Float) (id r : ℕ) (f' m' v' : List ℕ) (w' : List Float)
+        → added r (ix_of f' m' v') w' ≡ add_of x (take nb m.bases) id v (ix_of (take nf m.ix.faces) (take nm m.ix.marks) (take nv m.ix.vecs)) work
+        → added_by v work g id m ≡ (r, memory_of m.bases (f' ++ drop nf m.ix.faces) (m' ++ drop nm m.ix.marks) (v' ++ drop nv m.ix.vecs))
+    unfolding added_by
+    add_is v work id r f' m' v' w' e = rw (← ex, ← eb, ← ef, ← em, ← ev, ← e) refl
 
-  pub find_is : (v work : List Float) (layers set : List ℕ) (k wanted spill : ℕ) (f : Nearest) (after : Work)
-      → searched f after ≡ search_of (geo_of g) (take nb m.bases) (ix_of (take nf m.ix.faces) (take nm m.ix.marks) (take nv m.ix.vecs)) v k wanted spill (works work layers set)
-      → (f ≡ found_by v work layers set g k wanted spill m) × (f.set.len ≤ 256)
-  unfolding found_by
-  find_is v work layers set k wanted spill f after e = (
-    ap (λ (x : Searched). x.answer) e ∙ rw (eb, ef, em, ev) refl,
-    subst (λ (x : Searched). x.answer.set.len ≤ 256) (sym e)
-        (listed_few (geo_of g) (take nb m.bases) (ix_of (take nf m.ix.faces) (take nm m.ix.marks) (take nv m.ix.vecs)) v k wanted spill (works work layers set)),
-  )
+    pub find_is : (v work : List Float) (layers set : List ℕ) (k wanted spill : ℕ) (f : Nearest) (after : Work)
+        → searched f after ≡ search_of x (take nb m.bases) (ix_of (take nf m.ix.faces) (take nm m.ix.marks) (take nv m.ix.vecs)) v k wanted spill (works work layers set)
+        → f ≡ found_by v work layers set g k wanted spill m
+    unfolding found_by
+    find_is v work layers set k wanted spill f after e = ap (λ (y : Searched). y.answer) e ∙ rw (ex, eb, ef, em, ev) refl
+
+-- the list of an accepted search
+few : (r : Result Rust.Nearest Refusal) → (told_of r).set.len ≤ 256 → IfOk r (λ f. f.set.len ≤ 256)
+few (Ok f) h = h
+few (Err r) h = tt
+
+pub few_listed : (r : Result Rust.Nearest Refusal) (g : Geo) (bs : List Float) (ix : Ix) (t : List Float) (k wanted spill : ℕ) (m after : Work)
+    → searched (told_of r) after ≡ search_of g bs ix t k wanted spill m → IfOk r (λ f. f.set.len ≤ 256)
+few_listed r g bs ix t k wanted spill m after e = few r (subst (λ (y : Searched). y.answer.set.len ≤ 256) (sym e) (listed_few g bs ix t k wanted spill m))
 
 -- a search over memory of its own that is all zeros
 pub found_as : (s : List ℕ) (g : Session) (k wanted spill : ℕ) (m : Mem) (v : List Float) (f : Nearest) → Limits g → take g.d v ≡ floats_at g.d s 10
@@ -76,19 +83,22 @@ found_as s g k wanted spill m v f l e q =
 
 -- ---- how long an answer is
 
-pub found_short : (f : Nearest) → f.set.len ≤ 256 → length (found_text f) ≤ 5184
+list_short : (s : ResultSet) → s.len ≤ 256 → length (listed s) ≤ 5184
+list_short s h = simp length-append (omega (arith, told_short (Says.Found s.len s.checked), listing_length s.len s.ids s.sims))
+
+found_short : (f : Nearest) → f.set.len ≤ 256 → length (found_text f) ≤ 5184
 unfolding found_text
 found_short f h = go (eqb f.refusal 0)
   where
-    go : (b : Bool) → length (pick b (told (Says.Found f.set.len f.set.checked) ++ listing f.set.len f.set.ids f.set.sims) (told (Says.Refused f.refusal))) ≤ 5184
-    go true = simp length-append (omega (arith, told_short (Says.Found f.set.len f.set.checked), listing_length f.set.len f.set.ids f.set.sims))
-    go false = omega (arith, told_short (Says.Refused f.refusal))
+    go : (b : Bool) → length (pick b (listed f.set) (refused_line f.refusal)) ≤ 5184
+    go true = list_short f.set h
+    go false = omega (arith, refused_short f.refusal)
 
-pub text_found : (f : Nearest) → f.refusal ≡ 0 → told (Says.Found f.set.len f.set.checked) ++ listing f.set.len f.set.ids f.set.sims ≡ found_text f
+pub text_found : (f : Nearest) → f.refusal ≡ 0 → listed f.set ≡ found_text f
 unfolding found_text
 text_found f e = rw (eq-eqb f.refusal 0 e) refl
 
-pub text_refused : (f : Nearest) → (f.refusal ≡ 0 → ⊥) → told (Says.Refused f.refusal) ≡ found_text f
+pub text_refused : (f : Nearest) → (f.refusal ≡ 0 → ⊥) → refused_line f.refusal ≡ found_text f
 unfolding found_text
 text_refused f e = rw (ne_eqb f.refusal 0 e) refl
 
@@ -99,42 +109,42 @@ found_few s g k wanted spill m = found_short _ (listed_few _ _ _ _ k wanted spil
 -- ---- a record
 
 module _ (s : List ℕ) (st : State) (old new : List ℕ) (at r : ℕ) where
-  pub stepped : (st' : State) (text : List ℕ) (q : Request) → q ≡ request_of s st.session → perform q s st ≡ (text, st') → Put old new at r text
+  pub stepped : (st' : State) (text : List ℕ) (q : Asked) → q ≡ request_of s st.session → perform q s st ≡ (text, st') → Put old new at r text
       → Stepped s st st' old new at r
   unfolding step_of
   stepped st' text q e p u =
-      let w : step_of s st ≡ (text, st') = ap (λ (x : Request). perform x s st) (sym e) ∙ p in
+      let w : step_of s st ≡ (text, st') = ap (λ (x : Asked). perform x s st) (sym e) ∙ p in
       record {
         printed = subst (λ (x : List ℕ). Put old new at r x) (ap (λ (x : List ℕ × State). x.0) (sym w)) u;
         after = ap (λ (x : List ℕ × State). x.1) (sym w);
       }
 
 -- a record prints at most 5184 bytes: a line, and 256 entries of 20
-perform_short : (q : Request) (s : List ℕ) (st : State) → length (perform q s st).0 ≤ 5184
-perform_short (Asks.Refuse num) s st = omega (arith, told_short (Says.Refused num))
-perform_short (Asks.Geometry d n cap mode) s st = omega (arith, told_short (Says.Geometry d n cap mode))
-perform_short (Asks.Basis b) s st = omega (arith, told_short (Says.Basis b))
-perform_short (Asks.Add id) s st = go (added_of s st.session id st.memory) (eqb (added_of s st.session id st.memory).0 0)
+perform_short : (q : Asked) (s : List ℕ) (st : State) → length (perform q s st).0 ≤ 5184
+perform_short (Err r) s st = omega (arith, refused_short (number_of r))
+perform_short (Ok (Asks.Geometry d n cap mode)) s st = omega (arith, told_short (Says.Geometry d n cap mode))
+perform_short (Ok (Asks.Basis b)) s st = omega (arith, told_short (Says.Basis b))
+perform_short (Ok (Asks.Add id)) s st = go (added_of s st.session id st.memory) (eqb (added_of s st.session id st.memory).0 0)
   where
-    go : (a : ℕ × Mem) (b : Bool) → length (pick {A = List ℕ × State} b (told (Says.Added id), state_of (closed st.session) a.1) (told (Says.Refused a.0), state_of st.session a.1)).0 ≤ 5184
+    go : (a : ℕ × Mem) (b : Bool) → length (pick {A = List ℕ × State} b (told (Says.Added id), state_of (closed st.session) a.1) (refused_line a.0, state_of st.session a.1)).0 ≤ 5184
     go a true = omega (arith, told_short (Says.Added id))
-    go a false = omega (arith, told_short (Says.Refused a.0))
-perform_short (Asks.Search k wanted spill) s st = found_few s st.session k wanted spill st.memory
+    go a false = omega (arith, refused_short a.0)
+perform_short (Ok (Asks.Search k wanted spill)) s st = found_few s st.session k wanted spill st.memory
 
 pub step_short : (s : List ℕ) (st : State) → length (step_of s st).0 ≤ 5184
 unfolding step_of
 step_short s st = perform_short (request_of s st.session) s st
 
 pub added_is : (s : List ℕ) (g : Session) (id r : ℕ) (m m' : Mem) → added_of s g id m ≡ (r, m') → r ≡ 0
-    → perform (Asks.Add id) s (state_of g m) ≡ (told (Says.Added id), state_of (closed g) m')
+    → perform (Ok (Asks.Add id)) s (state_of g m) ≡ (told (Says.Added id), state_of (closed g) m')
 added_is s g id r m m' e z = rw (e, z) refl
 
 pub added_not : (s : List ℕ) (g : Session) (id r : ℕ) (m m' : Mem) → added_of s g id m ≡ (r, m') → (r ≡ 0 → ⊥)
-    → perform (Asks.Add id) s (state_of g m) ≡ (told (Says.Refused r), state_of g m')
+    → perform (Ok (Asks.Add id)) s (state_of g m) ≡ (refused_line r, state_of g m')
 added_not s g id r m m' e z = rw (e, ne_eqb r 0 z) refl
 
 pub based_is : (s : List ℕ) (g : Session) (b : ℕ) (m : Mem) (bs : List Float) → bs ≡ sets m.bases (b * (g.d * g.d)) (floats_at (g.d * g.d) s 4)
-    → perform (Asks.Basis b) s (state_of g m) ≡ (told (Says.Basis b), state_of g (memory_of bs m.ix.faces m.ix.marks m.ix.vecs))
+    → perform (Ok (Asks.Basis b)) s (state_of g m) ≡ (told (Says.Basis b), state_of g (memory_of bs m.ix.faces m.ix.marks m.ix.vecs))
 based_is s g b m bs e = rw (← e) refl
 
 -- ---- the places of a record's floats

@@ -6,9 +6,12 @@ use native.Mathlib.Nat.{mul-le-mul}
 use native.Mathlib.Omega.{arith}
 use lib.ListN.{length, take, drop, replicate, length-take, length-replicate}
 use lib.Seq.{sets, sets-eq, drop-drop}
-use Rattle.paper.specs.Geometry.{set_words, bases_len, face_words, vector_bytes}
+use Rattle.paper.specs.Geometry.{Geo, set_words, bases_len, face_words, vector_bytes}
 use Rattle.paper.proofs.GeometryFacts.{comp_le}
+use Rattle.records.specs.Requests.{Limits}
+use Rattle.records.specs.declared.Session.{Session}
 use Rattle.records.proofs.Requests.{square}
+use Rattle.steps.specs.Memory.{Parts, geo_of}
 
 pub few_bases : (n d : ℕ) → n ≤ 4 → d ≤ 8 → bases_len d n ≤ 256
 few_bases n d hn hd = mul-le-mul hn (square d hd)
@@ -32,6 +35,29 @@ basis_room b n d h k l =
     let k1 : b + 1 ≤ 4 = omega arith in
     let p : (b + 1) * (d * d) ≤ 256 = mul-le-mul k1 (square d l) in
     omega arith
+
+-- ---- the parts that a session's geometry uses
+
+module _ (g : Session) (l : Limits g) (at : Geo) (e : at ≡ geo_of g) where
+  pub layers_fit : at.n * set_words at.cap ≤ 16
+  layers_fit = rw e (few_layers g.n g.cap l.n l.cap)
+
+  pub parts_are : (b f v : ℕ) → b ≡ bases_len at.d at.n → f ≡ face_words at.d at.n at.cap → v ≡ vector_bytes at.d at.cap at.mode
+      → Parts g (record { bases = b; faces = f; marks = set_words at.cap; vectors = v; floats = at.d; layers = at.n * set_words at.cap; set = set_words at.cap })
+  parts_are b f v eb ef ev =
+      let kb : b ≡ bases_len g.d g.n = eb ∙ ap (λ (x : Geo). bases_len x.d x.n) e in
+      let kf : f ≡ face_words g.d g.n g.cap = ef ∙ ap (λ (x : Geo). face_words x.d x.n x.cap) e in
+      let kv : v ≡ vector_bytes g.d g.cap g.mode = ev ∙ ap (λ (x : Geo). vector_bytes x.d x.cap x.mode) e in
+      record {
+        bases = kb;
+        faces = kf;
+        marks = ap (λ (x : Geo). set_words x.cap) e;
+        vectors = kv;
+        few_bases = rw kb (few_bases g.n g.d l.n l.d);
+        few_faces = rw kf (few_faces g.n g.d g.cap l.n l.d l.cap);
+        few_marks = rw e (few_words g.cap l.cap);
+        few_vectors = rw kv (few_vectors g.cap g.mode g.d l.cap l.d);
+      }
 
 -- ---- parts
 

@@ -8,8 +8,7 @@ use Rattle.records.specs.Fields.{floats_at}
 use Rattle.records.specs.declared.Session.{Session}
 use Rattle.index_memory.specs.Memory.{Ix, ix_of}
 use Rattle.adding.specs.Adding.{Added, add_of}
-use Rattle.vector_store.specs.Search.{works, search_of}
-use Rattle.vector_store.specs.declared.Nearest.{Nearest}
+use Rattle.vector_store.specs.Search.{Nearest, works, search_of}
 
 -- the lengths of the program's memory: bases, face sets, marks, stored vectors, for d 8, n 4, C 256 and mode 0
 pub record Memory (b f m v : ℕ) : Type 0 where

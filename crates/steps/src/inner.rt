@@ -1,35 +1,35 @@
 // A record over lent memory, for the crate above, which sees to the lengths and to the room in out.
-ghost use Rattle.std.specs.Prelude.{◌≡◌, ◌+◌, ◌*◌, ◌≤◌, ◌<◌, length, take};
+ghost use Rattle.std.specs.Prelude.{◌≡◌, ◌+◌, ◌*◌, ◌≤◌, ◌<◌, length, take, IfOk, MatchResult};
 ghost use Rattle.std.proofs.lemmas.List.Edits.{sets};
 ghost use Rattle.lines.specs.Lines.{Put};
 ghost use Rattle.records.specs.Fields.{floats_at};
 ghost use Rattle.records.specs.Requests.{Limits};
 ghost use Rattle.steps.specs.Memory.{Parts, Memory, memory_of, added_by, added_of, found_by, found_of};
-ghost use Rattle.steps.specs.Steps.{found_text, state_of, Stepped};
+ghost use Rattle.paper.specs.Refusals.{number_of, code_of};
+ghost use Rattle.vector_store.specs.Search.{told_of};
+ghost use Rattle.steps.specs.Steps.{listed, state_of, Stepped, Refused};
 
 use super::After;
 use lines::Told;
-use paper::Lengths;
-use records::{Request, Session};
-use vector_store::Nearest;
+use paper::{Lengths, Refusal};
+use records::{Request, Session, Stage};
+use vector_store::{Nearest, Query};
 
 // How much of each memory the geometry uses.
 fn parts_of(g: Session) -> Lengths
     requires { Limits g }
     ensures { Parts g result }
 {
-    let d = g.d as usize;
-    let n = g.n as usize;
-    let cap = g.cap as usize;
-    let w = cap / 64;
+    let at = g.geometry();
+    let words = at.cap / 64;
     Lengths {
-        bases: paper::inner::bases_len(d, n),
-        faces: paper::inner::face_words(d, n, cap),
-        marks: w,
-        vectors: paper::inner::vector_bytes(d, cap, g.mode as usize),
-        floats: d,
-        layers: n * w,
-        set: w,
+        bases: paper::inner::bases_len(at),
+        faces: paper::inner::face_words(at),
+        marks: words,
+        vectors: paper::inner::vector_bytes(at),
+        floats: at.d,
+        layers: at.n * words,
+        set: words,
     }
 }
 
@@ -64,32 +64,25 @@ fn add_front(
     faces: &mut [u64],
     marks: &mut [u64],
     vectors: &mut [u8],
-) -> u32
+) -> Result<(), Refusal>
     requires { Limits g × Memory (length bases.now) (length faces.old) (length marks.old) (length vectors.old) }
     ensures { added_by v.now work.old g id (memory_of bases.now faces.old marks.old vectors.old)
-        ≡ (result, memory_of bases.now faces.new marks.new vectors.new) }
+        ≡ (code_of result, memory_of bases.now faces.new marks.new vectors.new) }
 {
     let l = parts_of(g);
-    let nb = l.bases;
-    let nf = l.faces;
-    let nm = l.marks;
-    let nv = l.vectors;
     adding::add_vector(
-        &bases[0..nb],
-        &mut faces[0..nf],
-        &mut marks[0..nm],
-        &mut vectors[0..nv],
+        &bases[..l.bases],
+        &mut faces[..l.faces],
+        &mut marks[..l.marks],
+        &mut vectors[..l.vectors],
         work,
         v,
-        g.d as usize,
-        g.n as usize,
-        g.cap as usize,
-        g.mode as usize,
+        g.geometry(),
         id as usize,
     )
 }
 
-// The record's vector is added; the answer is the refusal, or 0.
+// The record's vector is added.
 fn add(
     s: &[u8],
     g: Session,
@@ -98,10 +91,10 @@ fn add(
     faces: &mut [u64],
     marks: &mut [u64],
     vectors: &mut [u8],
-) -> u32
+) -> Result<(), Refusal>
     requires { Limits g × (length s.now ≡ 6 + 4 * g.d) × Memory (length bases.now) (length faces.old) (length marks.old) (length vectors.old) }
     ensures { added_of s.now g id (memory_of bases.now faces.old marks.old vectors.old)
-        ≡ (result, memory_of bases.now faces.new marks.new vectors.new) }
+        ≡ (code_of result, memory_of bases.now faces.new marks.new vectors.new) }
 {
     let d = g.d as usize;
     let v = vector_of(s, 6, d);
@@ -116,74 +109,44 @@ fn find_front(
     layers: &mut [u64],
     joined: &mut [u64],
     g: Session,
-    k: u32,
-    wanted: u32,
-    spill: u32,
+    query: Query,
     bases: &[f32],
     faces: &[u64],
     marks: &[u64],
     vectors: &[u8],
-) -> Nearest
+) -> Result<Nearest, Refusal>
     requires { Limits g × Memory (length bases.now) (length faces.now) (length marks.now) (length vectors.now) }
-    ensures { (result ≡ found_by v.now work.old layers.old joined.old g k wanted spill (memory_of bases.now faces.now marks.now vectors.now))
-        × (result.set.len ≤ 256) }
+    ensures found { told_of result ≡ found_by v.now work.old layers.old joined.old g query.k query.search_k query.spill (memory_of bases.now faces.now marks.now vectors.now) }
+    ensures few { IfOk result (λ f. f.set.len ≤ 256) }
 {
     let l = parts_of(g);
-    let nb = l.bases;
-    let nf = l.faces;
-    let nm = l.marks;
-    let nv = l.vectors;
     vector_store::find_nearest(
-        &bases[0..nb],
-        &faces[0..nf],
-        &marks[0..nm],
-        &vectors[0..nv],
+        &bases[..l.bases],
+        &faces[..l.faces],
+        &marks[..l.marks],
+        &vectors[..l.vectors],
         work,
         layers,
         joined,
         v,
-        g.d as usize,
-        g.n as usize,
-        g.cap as usize,
-        g.mode as usize,
-        k as usize,
-        wanted as usize,
-        spill as usize,
+        g.geometry(),
+        query,
     )
 }
 
-// What a search prints: its refusal, or how many it lists and checked, and the list.
-fn put_found(f: Nearest, out: &mut [u8], at: usize) -> usize
-    requires { (at + 5184 ≤ length out.old) × (f.set.len ≤ 256) }
-    ensures { Put out.old out.new at result (found_text f) }
-{
-    let num = f.refusal;
-    if num != 0 {
-        return lines::inner::put_told(out, at, Told::Refused(num));
-    }
-    let set = f.set;
-    let n = set.len;
-    let p = lines::inner::put_told(out, at, Told::Found(n as u32, set.checked));
-    lines::inner::put_listing(out, p, &set.ids, &set.sims, n)
-}
-
-// The record's search, printed.
-fn query(
+// The record's search.
+fn find(
     s: &[u8],
     g: Session,
-    k: u32,
-    wanted: u32,
-    spill: u32,
+    query: Query,
     bases: &[f32],
     faces: &[u64],
     marks: &[u64],
     vectors: &[u8],
-    out: &mut [u8],
-    at: usize,
-) -> usize
-    requires { Limits g × (length s.now ≡ 10 + 4 * g.d) × Memory (length bases.now) (length faces.now) (length marks.now) (length vectors.now) × (at + 5184 ≤ length out.old) }
-    ensures { Put out.old out.new at result
-        (found_text (found_of s.now g k wanted spill (memory_of bases.now faces.now marks.now vectors.now))) }
+) -> Result<Nearest, Refusal>
+    requires { Limits g × (length s.now ≡ 10 + 4 * g.d) × Memory (length bases.now) (length faces.now) (length marks.now) (length vectors.now) }
+    ensures found { told_of result ≡ found_of s.now g query.k query.search_k query.spill (memory_of bases.now faces.now marks.now vectors.now) }
+    ensures few { IfOk result (λ f. f.set.len ≤ 256) }
 {
     let d = g.d as usize;
     let v = vector_of(s, 10, d);
@@ -192,21 +155,89 @@ fn query(
     let mut joined = [0u64; 4];
     let w = g.cap as usize / 64;
     let nl = g.n as usize * w;
-    let f = find_front(
+    find_front(
         &v[..d],
         &mut work[..d],
         &mut layers[..nl],
         &mut joined[..w],
         g,
-        k,
-        wanted,
-        spill,
+        query,
         bases,
         faces,
         marks,
         vectors,
-    );
-    put_found(f, out, at)
+    )
+}
+
+// What an accepted search prints: how many it lists and checked, and the list.
+fn put_found(found: Nearest, out: &mut [u8], at: usize) -> usize
+    requires { (at + 5184 ≤ length out.old) × (found.set.len ≤ 256) }
+    ensures { Put out.old out.new at result (listed found.set) }
+{
+    let set = found.set;
+    let p = lines::inner::put_told(out, at, Told::Found(set.len as u32, set.checked));
+    lines::inner::put_listing(out, p, &set.ids, &set.sims, set.len)
+}
+
+// What a record asks for is done, and printed into out at a place. A refused record changes neither the memory nor out.
+fn perform(
+    s: &[u8],
+    g: Session,
+    bases: &mut [f32],
+    faces: &mut [u64],
+    marks: &mut [u64],
+    vectors: &mut [u8],
+    out: &mut [u8],
+    at: usize,
+) -> Result<After, Refusal>
+    requires { Memory (length bases.old) (length faces.old) (length marks.old) (length vectors.old) × (at + 5184 ≤ length out.old) }
+    ensures { MatchResult result
+        (λ a. Stepped s.now (state_of g (memory_of bases.old faces.old marks.old vectors.old))
+        (state_of a.session (memory_of bases.new faces.new marks.new vectors.new)) out.old out.new at a.at)
+        (λ r. Refused s.now (state_of g (memory_of bases.old faces.old marks.old vectors.old))
+        (state_of g (memory_of bases.new faces.new marks.new vectors.new)) out.old out.new (number_of r)) }
+{
+    match records::asked(s, g)? {
+        Request::Geometry(d, n, cap, mode) => Ok(After {
+            session: Session {
+                stage: Stage::Bases,
+                d,
+                n,
+                cap,
+                mode,
+            },
+            at: lines::inner::put_told(out, at, Told::Geometry(d, n, cap, mode)),
+        }),
+        Request::Basis(b) => {
+            set_basis(s, g, b, bases);
+            Ok(After {
+                session: g,
+                at: lines::inner::put_told(out, at, Told::Basis(b)),
+            })
+        }
+        Request::Add(id) => {
+            add(s, g, id, bases, faces, marks, vectors)?;
+            Ok(After {
+                session: Session {
+                    stage: Stage::Adding,
+                    ..g
+                },
+                at: lines::inner::put_told(out, at, Told::Added(id)),
+            })
+        }
+        Request::Search(k, wanted, spill) => {
+            let query = Query {
+                k: k as usize,
+                search_k: wanted as usize,
+                spill: spill as usize,
+            };
+            let found = find(s, g, query, bases, faces, marks, vectors)?;
+            Ok(After {
+                session: g,
+                at: put_found(found, out, at),
+            })
+        }
+    }
 }
 
 // One record, its kind and its body: what it asks for is done and printed into out at a place. No refused record changes the memory.
@@ -224,52 +255,11 @@ pub fn step(
     ensures { Stepped s.now (state_of g (memory_of bases.old faces.old marks.old vectors.old))
         (state_of result.session (memory_of bases.new faces.new marks.new vectors.new)) out.old out.new at result.at }
 {
-    match records::asked(s, g) {
-        Request::Refuse(num) => After {
+    match perform(s, g, bases, faces, marks, vectors, out, at) {
+        Ok(after) => after,
+        Err(refusal) => After {
             session: g,
-            at: lines::inner::put_told(out, at, Told::Refused(num)),
-        },
-        Request::Geometry(d, n, cap, mode) => After {
-            session: Session {
-                stage: 1,
-                d,
-                n,
-                cap,
-                mode,
-            },
-            at: lines::inner::put_told(out, at, Told::Geometry(d, n, cap, mode)),
-        },
-        Request::Basis(b) => {
-            set_basis(s, g, b, bases);
-            After {
-                session: g,
-                at: lines::inner::put_told(out, at, Told::Basis(b)),
-            }
-        }
-        Request::Add(id) => {
-            let num = add(s, g, id, bases, faces, marks, vectors);
-            if num != 0 {
-                return After {
-                    session: g,
-                    at: lines::inner::put_told(out, at, Told::Refused(num)),
-                };
-            }
-            After {
-                session: Session {
-                    stage: 2,
-                    d: g.d,
-                    n: g.n,
-                    cap: g.cap,
-                    mode: g.mode,
-                },
-                at: lines::inner::put_told(out, at, Told::Added(id)),
-            }
-        }
-        Request::Search(k, wanted, spill) => After {
-            session: g,
-            at: query(
-                s, g, k, wanted, spill, bases, faces, marks, vectors, out, at,
-            ),
+            at: lines::inner::put_told(out, at, Told::Refused(refusal)),
         },
     }
 }

@@ -7,54 +7,54 @@
 // A line is the refusal's number, then what the call gives, then what it leaves in lent memory: floats as patterns, faces as numbers.
 #![tactic(auto)]
 
-use faces::FaceAnswer;
+use paper::Refusal;
 use recorded::inner::{fill, float, next_number, number, show_floats};
 use std::io;
 use std::io::Read;
-use vector::Number;
 
-// A number or a refusal.
-fn put_number(rt: &impl Print, answer: Number) -> io::Result<()> {
-    match answer {
-        Number::Value(x) => {
-            print!(rt; "0")?;
-            show_floats(rt, &[x])
-        }
-        Number::Refused(refusal) => print!(rt; "{refusal}"),
+// A float or a refusal.
+fn put_float(rt: &impl Print, answer: Result<f32, Refusal>) -> io::Result<()> {
+    print!(rt; "{}", paper::code(answer))?;
+    if let Ok(x) = answer {
+        show_floats(rt, &[x])?;
     }
+    Ok(())
 }
 
 // A face or a refusal.
-fn put_face(rt: &impl Print, answer: FaceAnswer) -> io::Result<()> {
-    match answer {
-        FaceAnswer::Face(face) => print!(rt; "0 {face}"),
-        FaceAnswer::Refused(refusal) => print!(rt; "{refusal}"),
+fn put_face(rt: &impl Print, answer: Result<i32, Refusal>) -> io::Result<()> {
+    print!(rt; "{}", paper::code(answer))?;
+    if let Ok(face) = answer {
+        print!(rt; " {face}")?;
     }
+    Ok(())
 }
 
 // A refusal's number, and what the call leaves.
-fn put_left(rt: &impl Print, refusal: u32, v: &[f32]) -> io::Result<()> {
-    print!(rt; "{refusal}")?;
+fn put_left(rt: &impl Print, answer: Result<(), Refusal>, v: &[f32]) -> io::Result<()> {
+    print!(rt; "{}", paper::code(answer))?;
     show_floats(rt, v)
 }
 
 // A case of kind 4. Each zero it leaves is shown as +0.0: orthonormalize of the Rust adds from -0.0, so the sign of a zero is not compared there.
 fn of_basis(rt: &impl Print, number: usize, a: &[f32], b: &mut [f32]) -> io::Result<()> {
-    let refusal = ortho::orthonormalize(a, b, number % 65536, number / 65536);
+    let answer = ortho::orthonormalize(a, b, number % 65536, number / 65536);
     for x in b.iter_mut() {
         if *x == 0.0 {
             *x = 0.0;
         }
     }
-    put_left(rt, refusal, b)
+    put_left(rt, answer, b)
 }
 
 // A case of kind 6.
 fn of_spill(rt: &impl Print, spill: usize, a: &mut [f32]) -> io::Result<()> {
-    let spilled = faces::spill_faces(a, spill);
-    print!(rt; "{}", spilled.refusal)?;
-    for face in spilled.faces.iter().take(spilled.count) {
-        print!(rt; " {face}")?;
+    let answer = faces::spill_faces(a, spill);
+    print!(rt; "{}", paper::code(answer))?;
+    if let Ok(spilled) = answer {
+        for face in spilled.faces.iter().take(spilled.count) {
+            print!(rt; " {face}")?;
+        }
     }
     show_floats(rt, a)
 }
@@ -68,8 +68,8 @@ fn answer(
     b: &mut [f32],
 ) -> io::Result<()> {
     match kind {
-        1 => put_number(rt, vector::dot_product(a, b))?,
-        2 => put_number(rt, vector::distance(a, b))?,
+        1 => put_float(rt, vector::dot_product(a, b))?,
+        2 => put_float(rt, vector::distance(a, b))?,
         3 => put_left(rt, vector::normalize(a), a)?,
         4 => of_basis(rt, number, a, b)?,
         5 => put_face(rt, faces::find_face_idx(a))?,

@@ -1,8 +1,8 @@
-use mathlib.Core.Path.{◌∙◌}
-use native.Mathlib.Nat.{sub-zero}
 use Rattle.steps.specs.Memory.{memory_of}
 use Rattle.steps.proofs.Cases.{add_is}
 use Rattle.steps.proofs.inner.add_front.Goals as goal
 
 pub returns : goal.returns
-returns c = add_is c.args.g (memory_of c.args.bases.now c.args.faces.now c.args.marks.now c.args.vectors.now) _ _ _ _ (sub-zero c.parts_of-l.result.bases ∙ c.parts_of-l.ensures.bases) (sub-zero c.parts_of-l.result.faces ∙ c.parts_of-l.ensures.faces) (sub-zero c.parts_of-l.result.marks ∙ c.parts_of-l.ensures.marks) (sub-zero c.parts_of-l.result.vectors ∙ c.parts_of-l.ensures.vectors) _ _ _ _ _ _ _ _ c.add_vector.ensures
+returns c =
+    let l = c.parts_of-l.ensures in
+    add_is c.args.g (memory_of c.args.bases.now c.args.faces.now c.args.marks.now c.args.vectors.now) _ _ _ _ l.bases l.faces l.marks l.vectors _ c.geometry.ensures _ _ _ _ _ _ _ _ c.add_vector.ensures

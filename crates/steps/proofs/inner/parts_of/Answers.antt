@@ -1,10 +1,9 @@
-use mathlib.Core.Path.{refl}
-use native.Mathlib.Omega.{arith}
-use Rattle.steps.proofs.Room.{few_bases, few_faces, few_vectors, few_layers}
+use Rattle.std.proofs.Common.{arith}
+use Rattle.steps.proofs.Room.{layers_fit, parts_are}
 use Rattle.steps.proofs.inner.parts_of.Goals as goal
 
 pub overflow_mul-result : goal.overflow_mul-result
-overflow_mul-result c = omega (arith, few_layers c.args.g.n c.args.g.cap c.requires.n c.requires.cap)
+overflow_mul-result c = omega (arith, layers_fit c.args.g c.requires _ c.geometry-at.ensures)
 
 pub returns : goal.returns
-returns c = record { bases = c.bases_len.ensures; faces = c.face_words.ensures; marks = refl; vectors = c.vector_bytes.ensures; few_bases = rw c.bases_len.ensures (few_bases c.args.g.n c.args.g.d c.requires.n c.requires.d); few_faces = rw c.face_words.ensures (few_faces c.args.g.n c.args.g.d c.args.g.cap c.requires.n c.requires.d c.requires.cap); few_marks = omega (arith, c.requires.cap); few_vectors = rw c.vector_bytes.ensures (few_vectors c.args.g.cap c.args.g.mode c.args.g.d c.requires.cap c.requires.d) }
+returns c = parts_are c.args.g c.requires _ c.geometry-at.ensures _ _ _ c.bases_len.ensures c.face_words.ensures c.vector_bytes.ensures

@@ -1,13 +1,11 @@
-use mathlib.Core.Path.{sym, ap}
+use mathlib.Core.Path.{sym}
 use native.Mathlib.Omega.{arith}
 use Prim.Native.Nat.{◌*◌, ◌/◌}
 use lib.Seq.{length-take-le}
-use Rattle.lines.proofs.Texts.{put_as}
 use Rattle.steps.specs.Memory.{memory_of, zero_f}
-use Rattle.steps.specs.Steps.{found_text}
 use Rattle.steps.proofs.Room.{taken, few_words, few_layers}
 use Rattle.steps.proofs.Cases.{found_as}
-use Rattle.steps.proofs.inner.query.Goals as goal
+use Rattle.steps.proofs.inner.find.Goals as goal
 
 pub overflow_mul-nl : goal.overflow_mul-nl
 overflow_mul-nl c = omega (arith, few_layers c.args.g.n c.args.g.cap c.requires.0.n c.requires.0.cap)
@@ -27,8 +25,6 @@ slice_bounds-find_front-end-3 c = taken (c.args.g.n * (c.args.g.cap / 64)) 16 0 
 pub slice_bounds-find_front-end-4 : goal.slice_bounds-find_front-end-4
 slice_bounds-find_front-end-4 c = taken (c.args.g.cap / 64) 4 0 (few_words c.args.g.cap c.requires.0.cap)
 
-pub put_found-requires : goal.put_found-requires
-put_found-requires c = (omega (arith, c.requires.3), c.find_front-f.ensures.1)
-
-pub returns : goal.returns
-returns c = put_as (ap found_text (found_as c.args.s.now c.args.g c.args.k c.args.wanted c.args.spill (memory_of c.args.bases.now c.args.faces.now c.args.marks.now c.args.vectors.now) _ _ c.requires.0 c.vector_of-v.ensures.1 c.find_front-f.ensures.0)) c.put_found.ensures
+pub returns-clause-found : goal.returns-clause-found
+returns-clause-found c =
+    found_as c.args.s.now c.args.g c.args.query.k c.args.query.search_k c.args.query.spill (memory_of c.args.bases.now c.args.faces.now c.args.marks.now c.args.vectors.now) _ _ c.requires.0 c.vector_of-v.ensures.1 c.find_front.ensures.found

@@ -51,7 +51,7 @@ fn digit(b: u8) -> Option<u64> {
 // ---- reading
 
 // The next byte of the input; None where it ends or the read fails.
-pub fn next_byte(input: &mut impl Read) -> Option<u8> {
+fn next_byte(input: &mut impl Read) -> Option<u8> {
     input.bytes().next()?.ok()
 }
 

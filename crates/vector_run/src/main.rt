@@ -4,111 +4,94 @@
 //   3 normalize: of the n floats
 //   4 orthonormalize: of the n floats, into a buffer that holds the m floats; the number is 65,536 times the rounds, and d
 //   5 find_face_idx, 6 spill_faces: of the n floats, the number is the spill
+// Kind 0, a case that the lists have no room for, and the end of the input end the run; a write that fails stops nothing.
 // A line is the refusal's number, then what the call gives, then what it leaves in lent memory: floats as patterns, faces as numbers.
 #![tactic(auto)]
 
 use paper::Refusal;
-use recorded::inner::{fill, float, next_number, number, show_floats};
-use std::io;
+use recorded::inner::{fill, float, number, passed_over, show_float, show_floats};
 use std::io::Read;
 
 // A float or a refusal.
-fn put_float(rt: &impl Print, answer: Result<f32, Refusal>) -> io::Result<()> {
-    print!(rt; "{}", paper::code(answer))?;
+fn put_float(rt: &impl Print, answer: Result<f32, Refusal>) {
+    passed_over(print!(rt; "{}", paper::code(answer)));
     if let Ok(x) = answer {
-        show_floats(rt, &[x])?;
+        show_float(rt, x);
     }
-    Ok(())
 }
 
 // A face or a refusal.
-fn put_face(rt: &impl Print, answer: Result<i32, Refusal>) -> io::Result<()> {
-    print!(rt; "{}", paper::code(answer))?;
+fn put_face(rt: &impl Print, answer: Result<i32, Refusal>) {
+    passed_over(print!(rt; "{}", paper::code(answer)));
     if let Ok(face) = answer {
-        print!(rt; " {face}")?;
+        passed_over(print!(rt; " {face}"));
     }
-    Ok(())
 }
 
 // A refusal's number, and what the call leaves.
-fn put_left(rt: &impl Print, answer: Result<(), Refusal>, v: &[f32]) -> io::Result<()> {
-    print!(rt; "{}", paper::code(answer))?;
-    show_floats(rt, v)
+fn put_left(rt: &impl Print, answer: Result<(), Refusal>, v: &[f32]) {
+    passed_over(print!(rt; "{}", paper::code(answer)));
+    show_floats(rt, v);
 }
 
 // A case of kind 4. Each zero it leaves is shown as +0.0: orthonormalize of the Rust adds from -0.0, so the sign of a zero is not compared there.
-fn of_basis(rt: &impl Print, number: usize, a: &[f32], b: &mut [f32]) -> io::Result<()> {
+fn of_basis(rt: &impl Print, number: usize, a: &[f32], b: &mut [f32]) {
     let answer = ortho::orthonormalize(a, b, number % 65536, number / 65536);
     for x in b.iter_mut() {
         if *x == 0.0 {
             *x = 0.0;
         }
     }
-    put_left(rt, answer, b)
+    put_left(rt, answer, b);
 }
 
 // A case of kind 6.
-fn of_spill(rt: &impl Print, spill: usize, a: &mut [f32]) -> io::Result<()> {
+fn of_spill(rt: &impl Print, spill: usize, a: &mut [f32]) {
     let answer = faces::spill_faces(a, spill);
-    print!(rt; "{}", paper::code(answer))?;
+    passed_over(print!(rt; "{}", paper::code(answer)));
     if let Ok(spilled) = answer {
         for face in spilled.faces.iter().take(spilled.count) {
-            print!(rt; " {face}")?;
+            passed_over(print!(rt; " {face}"));
         }
     }
-    show_floats(rt, a)
+    show_floats(rt, a);
 }
 
 // Puts one case to its call, and writes what is answered.
-fn answer(
-    rt: &impl Print,
-    kind: u64,
-    number: usize,
-    a: &mut [f32],
-    b: &mut [f32],
-) -> io::Result<()> {
+fn answer(rt: &impl Print, kind: u64, number: usize, a: &mut [f32], b: &mut [f32]) {
     match kind {
-        1 => put_float(rt, vector::dot_product(a, b))?,
-        2 => put_float(rt, vector::distance(a, b))?,
-        3 => put_left(rt, vector::normalize(a), a)?,
-        4 => of_basis(rt, number, a, b)?,
-        5 => put_face(rt, faces::find_face_idx(a))?,
-        _ => of_spill(rt, number, a)?,
+        1 => put_float(rt, vector::dot_product(a, b)),
+        2 => put_float(rt, vector::distance(a, b)),
+        3 => put_left(rt, vector::normalize(a), a),
+        4 => of_basis(rt, number, a, b),
+        5 => put_face(rt, faces::find_face_idx(a)),
+        _ => of_spill(rt, number, a),
     }
-    println!(rt; "")
+    passed_over(println!(rt));
 }
 
-// One case of that kind: read, put to its call, and answered. False where the lists have no room for the case.
-fn one_case(
-    rt: &impl Print,
-    input: &mut impl Read,
-    kind: u64,
-    a: &mut [f32],
-    b: &mut [f32],
-) -> io::Result<bool> {
-    let given = number(input)? as usize;
-    let n = number(input)? as usize;
-    let m = number(input)? as usize;
-    if n > a.len() || m > b.len() {
-        return Ok(false);
+// One case: read, put to its call, and answered. False where the input ends or the lists have no room for the case.
+fn one_case(rt: &impl Print, input: &mut impl Read, a: &mut [f32], b: &mut [f32]) -> bool {
+    let kind = number(input);
+    let given = number(input) as usize;
+    let n = number(input) as usize;
+    let m = number(input) as usize;
+    if kind == 0 || n > a.len() || m > b.len() {
+        return false;
     }
-    fill(input, &mut a[..n], float)?;
-    fill(input, &mut b[..m], float)?;
-    answer(rt, kind, given, &mut a[..n], &mut b[..m])?;
-    Ok(true)
+    fill(input, &mut a[..n], float);
+    fill(input, &mut b[..m], float);
+    answer(rt, kind, given, &mut a[..n], &mut b[..m]);
+    true
 }
 
-fn main(rt: HostRuntime) -> io::Result<()> {
+fn main(rt: HostRuntime) {
     let mut input = rt.reader();
     let mut a = [0.0f32; 1056];
     let mut b = [0.0f32; 1056];
     for _ in 0..u64::MAX {
-        let Some(kind) = next_number(&mut input)? else {
-            break;
-        };
-        if !one_case(&rt, &mut input, kind, &mut a, &mut b)? {
+        if !one_case(&rt, &mut input, &mut a, &mut b) {
             break;
         }
     }
-    Ok(())
 }

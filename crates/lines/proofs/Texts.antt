@@ -12,7 +12,6 @@ use lib.Ieee.{Float, nan}
 use borrow.Author.Tests.{eq-eqb, ne_eqb}
 use Rattle.lines.specs.declared.Told.{Told}
 use Rattle.lines.specs.declared.Told.TheVariants.{Refused, Geometry, Basis, Added, Found}
-use Rattle.paper.specs.Refusals.{number_of}
 use Rattle.lines.specs.Lines.{Put, refused_line, told, trimmed, ten_digits, decimal, hexadecimal, entry, listing}
 
 -- ---- stores one after another
@@ -117,7 +116,7 @@ refused_short n = simp length-append (omega (arith, decimal_length n))
 
 pub told_short : (t : Told) → length (told t) ≤ 64
 unfolding told
-told_short (Refused r) = refused_short (number_of r)
+told_short (Refused n) = refused_short n
 told_short (Geometry d n cap mode) = simp length-append (omega (arith, decimal_length d, decimal_length n, decimal_length cap, decimal_length mode))
 told_short (Basis b) = simp length-append (omega (arith, decimal_length b))
 told_short (Added id) = simp length-append (omega (arith, decimal_length id))

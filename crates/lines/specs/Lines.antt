@@ -3,7 +3,6 @@ use Rattle.std.specs.Prelude.{ℕ, zero, suc, ◌+◌, ◌/◌, ◌%◌, cond, L
 use Rattle.std.proofs.lemmas.List.Edits.{sets}
 use Rattle.std.specs.Float.Ieee.{to_bits}
 use Rattle.std.specs.Float.{binary32}
-use Rattle.paper.specs.Refusals.{number_of}
 use Rattle.lines.specs.declared.Told.{Told}
 use Rattle.lines.specs.declared.Told.TheVariants.{Refused, Geometry, Basis, Added, Found}
 
@@ -73,7 +72,7 @@ refused_line n = line refused_word n
 
 -- the first line that a record prints
 unfoldable pub told : Told → List ℕ
-told (Refused r) = refused_line (number_of r)
+told (Refused n) = refused_line n
 told (Geometry d n cap mode) = number geometry_word d ++ number space n ++ number space cap ++ line space mode
 told (Basis b) = line basis_word b
 told (Added id) = line added_word id

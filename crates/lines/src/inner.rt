@@ -101,7 +101,7 @@ pub fn put_told(out: &mut [u8], at: usize, t: Told) -> usize
     ensures { Put out.old out.new at result (told t) }
 {
     match t {
-        Told::Refused(refusal) => put_line(out, at, b"refused ", refusal.into()),
+        Told::Refused(n) => put_line(out, at, b"refused ", n),
         Told::Geometry(d, n, cap, mode) => {
             let p = put_number(out, at, b"geometry ", d);
             let q = put_number(out, p, b" ", n);

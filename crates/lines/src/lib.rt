@@ -3,14 +3,12 @@
 
 ghost use Rattle.lines.specs.Laws.{Laws};
 
-use paper::Refusal;
-
 pub mod inner;
 
 // What one record comes to, but for a search's list: `refused N`, `geometry d n C mode`, `basis b`, `added id`, `found L checked c`.
 #[derive(Clone, Copy, Debug, PartialEq, Eq)]
 pub enum Told {
-    Refused(Refusal),
+    Refused(u32),
     Geometry(u32, u32, u32, u32),
     Basis(u32),
     Added(u32),

@@ -1,12 +1,10 @@
 -- What a record asks for, or its refusal, in the order of 01: the kind (15), the time (1), the body's length (2), the fields (1).
-use Rattle.std.specs.Prelude.{ℕ, ◌+◌, ◌*◌, ◌≤◌, ◌<◌, ◌≡◌, Bool, true, false, not, List, [], ◌∷◌, length, get_or, ltb, leb, eqb, Result, Ok, Err}
+use Rattle.std.specs.Prelude.{ℕ, ◌+◌, ◌*◌, ◌≤◌, ◌<◌, ◌≡◌, Bool, true, not, List, [], ◌∷◌, length, get_or, ltb, leb, eqb, Result, Ok, Err}
 use Rattle.paper.specs.Choice.{◌and◌, pick}
 use Rattle.paper.specs.Geometry.{geo_ok}
 use Rattle.records.specs.Fields.{u16_at, u32_at}
 use Rattle.paper.specs.declared.Refusal.{Refusal}
 use Rattle.paper.specs.declared.Refusal.TheVariants.{WrongGeometry, WrongLength, BadRecord}
-use Rattle.records.specs.declared.Stage.{Stage}
-use Rattle.records.specs.declared.Stage.TheVariants.{Start, Bases, Adding}
 use Rattle.records.specs.declared.Session.{Session}
 use Rattle.records.specs.declared.Request.{Request}
 use Rattle.records.specs.declared.Request.TheVariants.{Geometry, Basis, Add, Search}
@@ -20,16 +18,12 @@ abbrev pub demand : Refusal → Bool → Asked → Asked
 demand r ok rest = pick ok rest (Err r)
 
 -- no geometry was accepted yet
-abbrev pub at_start : Stage → Bool
-at_start Start = true
-at_start Bases = false
-at_start Adding = false
+abbrev pub at_start : ℕ → Bool
+at_start stage = eqb stage 0
 
 -- bases may be given
-abbrev pub takes_bases : Stage → Bool
-takes_bases Start = false
-takes_bases Bases = true
-takes_bases Adding = false
+abbrev pub takes_bases : ℕ → Bool
+takes_bases stage = eqb stage 1
 
 -- the program's limits: d 8, n 4, C 256 (and a known mode)
 unfoldable pub within_limits : Session → Bool

@@ -10,18 +10,11 @@ use paper::{Geometry, Refusal};
 
 pub mod inner;
 
-// How far a run has come: no geometry yet; bases may be given; an addition was accepted.
-#[derive(Clone, Copy, Debug, PartialEq, Eq)]
-pub enum Stage {
-    Start,
-    Bases,
-    Adding,
-}
-
-// Where a run stands: its stage and its geometry.
+// Where a run stands: its geometry, and what may come next. Stage 0: no geometry yet; 1: bases may be given; 2: an addition was accepted. A number, and no enum: `asked`
+// and the runs above take any number there.
 #[derive(Clone, Copy, Debug, PartialEq, Eq)]
 pub struct Session {
-    pub stage: Stage,
+    pub stage: u32,
     pub d: u32,
     pub n: u32,
     pub cap: u32,
@@ -72,14 +65,14 @@ fn geometry_fits(g: Geometry) -> bool
 fn geometry_of(s: &[u8], g: Session) -> Result<Request, Refusal>
     ensures { result ≡ geometry_of s.now g }
 {
-    if g.stage != Stage::Start {
+    if g.stage != 0 {
         return Err(Refusal::WrongGeometry);
     }
     if s.len() != 11 {
         return Err(Refusal::WrongLength);
     }
     let asked = Session {
-        stage: Stage::Bases,
+        stage: 1,
         d: inner::u16_at(s, 2),
         n: inner::u16_at(s, 4),
         cap: inner::u32_at(s, 6),
@@ -97,7 +90,7 @@ fn basis_of(s: &[u8], g: Session) -> Result<Request, Refusal>
     requires { Limits g }
     ensures { result ≡ basis_of s.now g }
 {
-    if g.stage != Stage::Bases {
+    if g.stage != 1 {
         return Err(Refusal::WrongGeometry);
     }
     let d = g.d as usize;
@@ -117,7 +110,7 @@ fn addition_of(s: &[u8], g: Session) -> Result<Request, Refusal>
     requires { Limits g }
     ensures { result ≡ addition_of s.now g }
 {
-    if g.stage == Stage::Start {
+    if g.stage == 0 {
         return Err(Refusal::WrongGeometry);
     }
     let d = g.d as usize;
@@ -133,7 +126,7 @@ fn search_of(s: &[u8], g: Session) -> Result<Request, Refusal>
     requires { Limits g }
     ensures { result ≡ search_of s.now g }
 {
-    if g.stage == Stage::Start {
+    if g.stage == 0 {
         return Err(Refusal::WrongGeometry);
     }
     let d = g.d as usize;

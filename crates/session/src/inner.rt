@@ -59,7 +59,7 @@ pub fn feed(
                 };
             }
             Err(refusal) => {
-                let q = lines::inner::put_told(out, p, Told::Refused(refusal));
+                let q = lines::inner::put_told(out, p, Told::Refused(refusal.into()));
                 return Fed {
                     session: g,
                     used: i,

@@ -79,7 +79,7 @@ pub fn finish(rest: &[u8]) -> Last
     if rest.is_empty() {
         return Last { text, len: 0 };
     }
-    let len = lines::inner::put_told(&mut text, 0, Told::Refused(Refusal::BadRecord));
+    let len = lines::inner::put_told(&mut text, 0, Told::Refused(Refusal::BadRecord.into()));
     Last { text, len }
 }
 

@@ -12,10 +12,8 @@ use Rattle.paper.proofs.Choice.{and_l, and_r}
 use Rattle.records.specs.Fields.{u16_at}
 use Rattle.records.specs.Requests.{Asked, Fits, within_limits, geometry_fits, request_of}
 use Rattle.records.proofs.Requests.{request_fits, of_kind, unknown}
-use Rattle.records.specs.declared.Stage.{Stage}
 use Rattle.paper.specs.declared.Refusal.TheVariants.{BadRecord}
 use Rattle.records.specs.declared.Session.{Session}
-use Rattle.records.specs.declared.Stage.TheVariants.{Bases}
 use Rattle.records.specs.declared.Request.TheVariants.{Geometry, Basis, Add, Search}
 use Rattle.lines.specs.Lines.{refused_line, told}
 use Rattle.lines.specs.declared.Told.TheVariants as Says
@@ -33,7 +31,7 @@ geo_mode d n cap mode e =
     and_r (cap_ok cap) _ (and_r (leb n 32) _ (and_r (leb 1 n) _ (and_r (leb d 1024) _ (and_r (leb 1 d) _ e))))
 
 -- a geometry that was taken
-geometry_within : (stage : Stage) (d n cap mode : ℕ) → geometry_fits d n cap mode ≡ true → within_limits (session_of stage d n cap mode) ≡ true
+geometry_within : (stage d n cap mode : ℕ) → geometry_fits d n cap mode ≡ true → within_limits (session_of stage d n cap mode) ≡ true
 unfolding geometry_fits within_limits
 geometry_within stage d n cap mode e =
     let lim = and_r (geo_ok d n cap mode) _ e in
@@ -47,7 +45,7 @@ closed_within g = refl
 -- the session behind a request: a new geometry, or the same four numbers
 performed_within : (q : Asked) (s : List ℕ) (st : State) → IfOk q (λ r. Fits r s st.session) → within_limits st.session ≡ true → within_limits (perform q s st).1.session ≡ true
 performed_within (Err r) s st f w = w
-performed_within (Ok (Geometry d n cap mode)) s st f w = geometry_within Bases d n cap mode f
+performed_within (Ok (Geometry d n cap mode)) s st f w = geometry_within 1 d n cap mode f
 performed_within (Ok (Basis b)) s st f w = w
 performed_within (Ok (Add id)) s st f w = go (added_of s st.session id st.memory) (eqb (added_of s st.session id st.memory).0 0)
   where

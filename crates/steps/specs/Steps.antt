@@ -5,8 +5,6 @@ use Rattle.paper.specs.Choice.{pick}
 use Rattle.records.specs.Fields.{floats_at}
 use Rattle.paper.specs.Refusals.{number_of}
 use Rattle.records.specs.Requests.{Asked, request_of}
-use Rattle.records.specs.declared.Stage.{Stage}
-use Rattle.records.specs.declared.Stage.TheVariants.{Start, Bases, Adding}
 use Rattle.records.specs.declared.Session.{Session}
 use Rattle.records.specs.declared.Request.TheVariants.{Geometry, Basis, Add, Search}
 use Rattle.lines.specs.Lines.{Put, refused_line, told, listing}
@@ -27,13 +25,13 @@ state_of g m = record { session = g; memory = m }
 abbrev pub held : Store → State
 held t = state_of t.session (memory_of t.bases t.faces t.marks t.vectors)
 
-abbrev pub session_of : Stage → ℕ → ℕ → ℕ → ℕ → Session
+abbrev pub session_of : ℕ → ℕ → ℕ → ℕ → ℕ → Session
 session_of stage d n cap mode = record { stage = stage; d = d; n = n; cap = cap; mode = mode }
 
 -- bases, face sets, marks and vectors start as zeros
 unfoldable pub start_of : Store
 start_of = record {
-  session = session_of Start 0 0 0 0;
+  session = session_of 0 0 0 0 0;
   bases = replicate 256 zero_f;
   faces = replicate 256 0;
   marks = replicate 4 0;
@@ -50,7 +48,7 @@ found_text f = pick (eqb f.refusal 0) (listed f.set) (refused_line f.refusal)
 
 -- an accepted addition closes the bases; a refused one changes nothing of the session
 abbrev pub closed : Session → Session
-closed g = session_of Adding g.d g.n g.cap g.mode
+closed g = session_of 2 g.d g.n g.cap g.mode
 
 abbrev pub add_done : Session → ℕ → ℕ × Mem → List ℕ × State
 add_done g id a = pick (eqb a.0 0) (told (Says.Added id), state_of (closed g) a.1) (refused_line a.0, state_of g a.1)
@@ -61,7 +59,7 @@ with_bases m b = record { bases = b; ix = m.ix }
 -- what a request prints, and the state behind it; basis b stands at b * d * d
 abbrev pub perform : Asked → List ℕ → State → List ℕ × State
 perform (Err r) s st = (refused_line (number_of r), st)
-perform (Ok (Geometry d n cap mode)) s st = (told (Says.Geometry d n cap mode), state_of (session_of Bases d n cap mode) st.memory)
+perform (Ok (Geometry d n cap mode)) s st = (told (Says.Geometry d n cap mode), state_of (session_of 1 d n cap mode) st.memory)
 perform (Ok (Basis b)) s st =
     let g = st.session in
     (told (Says.Basis b), state_of g (with_bases st.memory (sets st.memory.bases (b * (g.d * g.d)) (floats_at (g.d * g.d) s 4))))

@@ -12,7 +12,7 @@ ghost use Rattle.steps.specs.Steps.{listed, state_of, Stepped, Refused};
 use super::After;
 use lines::Told;
 use paper::{Lengths, Refusal};
-use records::{Request, Session, Stage};
+use records::{Request, Session};
 use vector_store::{Nearest, Query};
 
 // How much of each memory the geometry uses.
@@ -200,7 +200,7 @@ fn perform(
     match records::asked(s, g)? {
         Request::Geometry(d, n, cap, mode) => Ok(After {
             session: Session {
-                stage: Stage::Bases,
+                stage: 1,
                 d,
                 n,
                 cap,
@@ -218,10 +218,7 @@ fn perform(
         Request::Add(id) => {
             add(s, g, id, bases, faces, marks, vectors)?;
             Ok(After {
-                session: Session {
-                    stage: Stage::Adding,
-                    ..g
-                },
+                session: Session { stage: 2, ..g },
                 at: lines::inner::put_told(out, at, Told::Added(id)),
             })
         }
@@ -259,7 +256,7 @@ pub fn step(
         Ok(after) => after,
         Err(refusal) => After {
             session: g,
-            at: lines::inner::put_told(out, at, Told::Refused(refusal)),
+            at: lines::inner::put_told(out, at, Told::Refused(refusal.into())),
         },
     }
 }

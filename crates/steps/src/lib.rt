@@ -5,7 +5,7 @@ ghost use Rattle.std.specs.Prelude.{◌≡◌};
 ghost use Rattle.steps.specs.Steps.{start_of};
 ghost use Rattle.steps.specs.Laws.{Laws};
 
-use records::{Session, Stage};
+use records::Session;
 
 pub mod inner;
 
@@ -31,7 +31,7 @@ pub fn start() -> Store
     ensures { result ≡ start_of }
 {
     let session = Session {
-        stage: Stage::Start,
+        stage: 0,
         d: 0,
         n: 0,
         cap: 0,

@@ -14,4 +14,4 @@ pub returns : goal.returns
 unfolding told
 returns c =
     let n : length c.args.rest.now ≡ 0 → ⊥ = grind (arith, nat_tests, c.if-is_empty.ensures) in
-    put_as (some_left c.args.rest.now n) c.put_told-len.ensures
+    put_as (some_left c.args.rest.now n) (rw c.into.ensures at c.put_told-len.ensures)

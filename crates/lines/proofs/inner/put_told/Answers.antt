@@ -1,4 +1,4 @@
-use mathlib.Core.Path.{sym, ap, ◌∙◌}
+use mathlib.Core.Path.{sym, ap}
 use native.Mathlib.Omega.{arith}
 use Rattle.lines.specs.Lines.{refused_line, told}
 use Rattle.lines.proofs.Texts.{then, put_as, decimal_length}
@@ -18,7 +18,7 @@ put_line-requires-in-Found c = omega (arith, c.put_number-p-in-Found.ensures.nex
 
 pub returns-in-Refused : goal.returns-in-Refused
 unfolding told refused_line
-returns-in-Refused c = put_as (ap refused_line c.into.ensures ∙ ap told (sym c.in-Refused.is)) c.put_line.ensures
+returns-in-Refused c = put_as (ap told (sym c.in-Refused.is)) c.put_line.ensures
 
 pub returns-in-Geometry : goal.returns-in-Geometry
 unfolding told

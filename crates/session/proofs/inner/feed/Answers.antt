@@ -26,7 +26,7 @@ put_told-q-requires c = omega (arith, c.loop-out-test.true, c.loop-out.invariant
 
 pub returns-in-Err : goal.returns-in-Err
 unfolding told
-returns-in-Err c = ends_bad _ _ _ _ _ _ _ c.loop-out.invariant.0 c.loop-out-test.true _ _ _ (front_is c.args.input.now c.loop-out.i _ _ c.front.ensures.told c.in-Err.is) c.put_told-q.ensures
+returns-in-Err c = ends_bad _ _ _ _ _ _ _ c.loop-out.invariant.0 c.loop-out-test.true _ _ _ (front_is c.args.input.now c.loop-out.i _ _ c.front.ensures.told c.in-Err.is) (rw (← c.into.ensures) c.put_told-q.ensures)
 
 pub step-a-requires : goal.step-a-requires
 step-a-requires c = (c.loop-out.invariant.1, omega (arith, c.loop-out-test.true, c.loop-out.invariant.0.room))

@@ -42,8 +42,8 @@ fn check_scan(
     Ok(())
 }
 
-// Ranks every present id, by rising id, into a list of at most k. Refuses 1, 2, 4, 5, and 10 for a score that is NaN: what the paper answers then is an empty list, with
-// k 0 and checked 0. It writes to no lent memory.
+// Ranks every present id, by rising id, into a list of at most k. Refuses 1, 2, 4, 5, and 10 for a score that is NaN; a refusal
+// comes without a list (the rules have an empty one there, with k 0 and checked 0). It writes to no lent memory.
 #[tactic(auto, unfolding(crate::specs::Scan::scan_of))]
 pub fn full_table_scan(
     marks: &[u64],

@@ -60,7 +60,7 @@ pub fn put_fed(
 
 // ---- feeding
 
-// Feeds the pairs of two arrays in turn, up to the first refusal.
+// Feeds the pairs of two arrays in turn. The first refusal comes back, without the set as it had been fed up to then.
 pub fn feed_all(set: ResultSet, ids: &[u32], scores: &[f32]) -> Result<ResultSet, Refusal>
     requires { length ids.now ≡ length scores.now }
     ensures { let fed = feed_all_of set (entries (length ids.now) ids.now scores.now) in fed_or fed.set result ≡ fed }

@@ -65,7 +65,7 @@ fn pairs_in(a: &[u32], b: &[u32]) -> u32
 }
 
 impl ResultSet {
-    /// An empty set for at most k entries. Refuses 4 for a k over 256: what the paper answers then is an empty set, with k 0 and checked 0.
+    /// An empty set for at most k entries. Refuses 4 for a k over 256; a refusal comes without a set (the rules have an empty one there, with k 0 and checked 0).
     #[tactic(auto, unfolding(crate::specs::Sets::made_of))]
     pub fn new(k: usize) -> Result<ResultSet, Refusal>
         ensures { fed_or (empty_set 0) result ≡ made_of k }
@@ -145,7 +145,7 @@ impl ResultSet {
     }
 
     /// How many pairs the first `at` entries of the two lists have with one id, over `at`, all as f64. Refuses 13 where either set isn't well formed,
-    /// then 14 for an `at` of 0; a refused recall tells +0.0.
+    /// then 14 for an `at` of 0 (the rules count a refused recall as +0.0).
     #[tactic(auto, unfolding(crate::specs::Recalls::recall_of, crate::specs::Recalls::recall_refusal))]
     pub fn compute_recall(self, baseline: ResultSet, at: u32) -> Result<f64, Refusal>
         ensures { told_by result ≡ recall_of self baseline at }

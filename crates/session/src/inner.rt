@@ -9,7 +9,8 @@ use lines::Told;
 use paper::Refusal;
 use records::Session;
 
-// The length of the record at the front, and none where what stands there is shorter than its length says: it may be cut, or still to come.
+// The length of the record at the front, and none where what stands there is shorter than its length says, or too short to hold one: it may be cut, or still to
+// come.
 // A length of 2 to 512 is good, and others are refused with 15.
 #[tactic(auto, unfolding(crate::specs::Runs::frame_of))]
 fn front(s: &[u8]) -> Result<Option<usize>, Refusal>

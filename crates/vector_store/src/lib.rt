@@ -106,8 +106,8 @@ fn find_nearest_internal(
 // target's projection picks (a spill of d or more counts as d - 1), the unions are merged into n counting layers, and the highest layer with search_k ids
 // or more is taken. Each candidate is fed, lowest id first, with its distance from the target, which is not normalised here. Larger scores come first, and a
 // list of more than k candidates keeps the k farthest.
-// Refuses 1, 2, 4, 5, 7 and 8, and then for each candidate in turn 9 or 10: what the paper answers then is an empty list, with k 0 and checked 0, and nothing
-// dropped. Work is d floats, layers n times and set once the words of a set: 1 to 5 leave them alone, and after anything else they are all zeros.
+// Refuses 1, 2, 4, 5, 7 and 8, and then for each candidate in turn 9 or 10; a refusal comes without a list (the rules have an empty one there, with k 0 and
+// checked 0, and nothing dropped). Work is d floats, layers n times and set once the words of a set: 1 to 5 leave them alone, and after anything else they are all zeros.
 pub fn find_nearest(
     bases: &[f32],
     faces: &[u64],
@@ -136,8 +136,8 @@ pub fn find_nearest(
     found
 }
 
-// Ranks every present id: the backend's scan, under the name that the store gives it. Refuses 1, 2, 4, 5, and 10 for a score that is NaN: what the paper answers then is
-// an empty list, with k 0 and checked 0. It writes to no lent memory.
+// Ranks every present id: the backend's scan, under the name that the store gives it. Refuses 1, 2, 4, 5, and 10 for a score that is NaN; a refusal
+// comes without a list (the rules have an empty one there, with k 0 and checked 0). It writes to no lent memory.
 pub fn full_table_scan(
     marks: &[u64],
     vectors: &[u8],

@@ -1,37 +1,36 @@
 // A line of questions: `f` a search, `s` a scan, each for a drawn target, `m` digests of face sets, marks and stored vectors. Of these functions it is proved
-// that they are safe and end.
+// that they are safe and end. None can fail: what the input does not hold is read as 0, and a write that fails is passed over.
 use paper::Refusal;
-use recorded::inner::{show_floats, shown};
+use recorded::inner::{passed_over, show_float, shown};
 use replay_drawing::inner::{Case, digest_bytes, digest_words, draw_vector};
 use result::ResultSet;
-use std::io;
 use std::io::Read;
 use vector_store::Query;
 
 // ---- showing
 
 // The count, the length and the entries, and the end of the line.
-fn show_list(rt: &impl Print, set: ResultSet) -> io::Result<()> {
+fn show_list(rt: &impl Print, set: ResultSet) {
     let n = set.len();
-    print!(rt; " {} {n}", set.checked)?;
+    passed_over(print!(rt; " {} {n}", set.checked));
     for i in 0..n {
         match set.result_at(i) {
             Some(e) => {
-                print!(rt; " {}", e.id)?;
-                show_floats(rt, &[e.similarity])?;
+                passed_over(print!(rt; " {}", e.id));
+                show_float(rt, e.similarity);
             }
-            None => print!(rt; " past")?,
+            None => passed_over(print!(rt; " past")),
         }
     }
-    println!(rt; "")
+    passed_over(println!(rt));
 }
 
 // The list; or `none` where no layer holds as many ids as asked for, and the number of any other refusal.
-fn show_answer(rt: &impl Print, answer: Result<ResultSet, Refusal>) -> io::Result<()> {
+fn show_answer(rt: &impl Print, answer: Result<ResultSet, Refusal>) {
     match answer {
         Ok(set) => show_list(rt, set),
-        Err(Refusal::NoLayer) => println!(rt; " none"),
-        Err(refusal) => println!(rt; " {refusal}"),
+        Err(Refusal::NoLayer) => passed_over(println!(rt; " none")),
+        Err(refusal) => passed_over(println!(rt; " {refusal}")),
     }
 }
 
@@ -47,12 +46,12 @@ pub fn find(
     faces: &[u64],
     marks: &[u64],
     vectors: &[u8],
-) -> io::Result<()> {
-    print!(rt; "find")?;
+) {
+    passed_over(print!(rt; "find"));
     let query = Query {
-        k: shown(rt, input)? as usize,
-        search_k: shown(rt, input)? as usize,
-        spill: shown(rt, input)? as usize,
+        k: shown(rt, input) as usize,
+        search_k: shown(rt, input) as usize,
+        spill: shown(rt, input) as usize,
     };
     let g = case.geometry;
     let mut v = [0.0f32; 64];
@@ -75,7 +74,7 @@ pub fn find(
         g,
         query,
     );
-    show_answer(rt, found.map(|nearest| nearest.set))
+    show_answer(rt, found.map(|nearest| nearest.set));
 }
 
 // A line `s`: a scan for a drawn target.
@@ -86,23 +85,21 @@ pub fn scan(
     seed: &mut u32,
     marks: &[u64],
     vectors: &[u8],
-) -> io::Result<()> {
-    print!(rt; "scan")?;
-    let k = shown(rt, input)? as usize;
+) {
+    passed_over(print!(rt; "scan"));
+    let k = shown(rt, input) as usize;
     let g = case.geometry;
     let mut v = [0.0f32; 64];
     draw_vector(&mut v, g.d, seed, case.grain, case.aim);
     let len = g.d.min(64);
-    show_answer(
-        rt,
-        vector_store::full_table_scan(marks, vectors, &v[..len], g, k),
-    )
+    let found = vector_store::full_table_scan(marks, vectors, &v[..len], g, k);
+    show_answer(rt, found);
 }
 
 // A line `m`.
-pub fn memory(rt: &impl Print, faces: &[u64], marks: &[u64], vectors: &[u8]) -> io::Result<()> {
+pub fn memory(rt: &impl Print, faces: &[u64], marks: &[u64], vectors: &[u8]) {
     let faces = digest_words(faces);
     let marks = digest_words(marks);
     let vectors = digest_bytes(vectors);
-    println!(rt; "memory {faces:08x} {marks:08x} {vectors:08x}")
+    passed_over(println!(rt; "memory {faces:08x} {marks:08x} {vectors:08x}"));
 }

@@ -1,18 +1,17 @@
-// What is drawn is put to the calls. Of these functions it is proved that they are safe and end.
+// What is drawn is put to the calls. Of these functions it is proved that they are safe and end. None can fail: a write that fails is passed over.
 use paper::{Geometry, Refusal};
-use recorded::inner::{show_refusal, show_refused};
+use recorded::inner::{passed_over, show_refusal, show_refused};
 use replay_drawing::inner::{Case, draw_bases, draw_vector, id_of, next_draw};
-use std::io;
 
 // ---- bases
 
 // Draws the bases, and ends the line.
-pub fn start(rt: &impl Print, case: Case, seed: &mut u32, bases: &mut [f32]) -> io::Result<()> {
+pub fn start(rt: &impl Print, case: Case, seed: &mut u32, bases: &mut [f32]) {
     let mut basis = [0.0f32; 4096];
     let part = bases.len().checked_div(case.geometry.n).unwrap_or(0);
     let len = part.min(basis.len());
     let basis = &mut basis[..len];
-    show_refusal(rt, draw_bases(bases, basis, case, seed))
+    show_refusal(rt, draw_bases(bases, basis, case, seed));
 }
 
 // ---- additions
@@ -60,12 +59,11 @@ pub fn add_all(
     faces: &mut [u64],
     marks: &mut [u64],
     vectors: &mut [u8],
-) -> io::Result<()> {
+) {
     for _ in 0..m {
         let answer = add_one(case, seed, left_out, bases, faces, marks, vectors);
-        show_refused(rt, answer)?;
+        show_refused(rt, answer);
     }
-    Ok(())
 }
 
 // ---- merging
@@ -80,10 +78,10 @@ pub fn join(
     faces2: &[u64],
     marks2: &[u64],
     vectors2: &[u8],
-) -> io::Result<()> {
+) {
     let once = merging::merge(faces, marks, vectors, faces2, marks2, vectors2, g);
-    show_refusal(rt, once)?;
-    print!(rt; "merge")?;
+    show_refusal(rt, once);
+    passed_over(print!(rt; "merge"));
     let again = merging::merge(faces, marks, vectors, faces2, marks2, vectors2, g);
-    show_refusal(rt, again)
+    show_refusal(rt, again);
 }

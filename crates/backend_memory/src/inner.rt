@@ -68,6 +68,7 @@ pub fn rank(
     // Most candidates meet a full list with a greater last score: they are only counted. Every sum whose bits are below `bar` has such a root, since a
     // smaller sum has no greater root and the last score never falls; so that root is not taken.
     let mut bar: u32 = 0;
+    // No `for`: where the walk goes on follows from what it found.
     while let Some(id) = bitmaps::inner::next(ids, at) {
         if !vector_exists(marks, id) {
             return Err(Refusal::NoMark);

@@ -105,6 +105,8 @@ pub fn next(cap: usize, set: &[u64], from: usize) -> Result<Option<usize>, Refus
     Ok(inner::next(set, from))
 }
 
+// These three are the tests and one inner call each; what they share is `check_pair` and the inner `by_word`, and a parameter for the call would be no plainer.
+
 // Takes the second set's ids out of the first. Refuses 1 and 2, and changes nothing then.
 pub fn and_not(cap: usize, a: &mut [u64], b: &[u64]) -> Result<(), Refusal>
     ensures { Changed (pair_fault cap (length a.old) (length b.now)) (without a.old b.now) a.old (code_of result) a.new }

@@ -25,7 +25,7 @@ pub struct Place {
     pub end: usize,
 }
 
-// Writes the first n bytes; false if they could not all be written.
+// Writes the first n bytes; false if they could not all be written, which is what the library's call answers.
 fn print(out: &[u8], n: usize) -> bool
     requires { n ≤ length out.now }
 {

@@ -30,7 +30,7 @@ fn carry(layer: &mut [u64], cur: &mut [u64]) -> bool
 }
 
 // Merges a set into the layers, and leaves in it what fell off the last. It ends early where nothing is carried on: the layers above stay as
-// they are.
+// they are. (By index: `chunks_exact_mut` asks for a width above 0, which this call does not.)
 pub fn merge(layers: &mut [u64], n: usize, w: usize, cur: &mut [u64])
     requires { (length layers.old ≡ n * w) × (length cur.old ≡ w) }
     ensures { (layers.new ≡ merged n w layers.old cur.old) × (cur.new ≡ fallen n w layers.old cur.old) }

@@ -12,7 +12,7 @@ use paper::Refusal;
 
 pub mod inner;
 
-/// The faces that spilling picks, in their order: the first `count` of `faces`; the others are 0.
+/// The faces that spilling picks, in their order: the first `count` of `faces`; the others are 0. (A fixed array with its length: nothing is allocated.)
 #[derive(Clone, Copy, Debug, PartialEq, Eq)]
 pub struct Spilled {
     pub count: usize,

@@ -1,4 +1,5 @@
 // What an index is: the tests of geometry and lengths that its calls make before anything else, and making it empty (vector_store.rs's new).
+// Face sets, marks and stored vectors are lent as three slices, here and above: a struct of the three would have each contract say that each slice is still the one that came in.
 #![tactic(auto)]
 
 ghost use Rattle.std.specs.Prelude.{◌≡◌, IfOk};

@@ -38,6 +38,7 @@ fn copy_present(vectors: &mut [u8], from: &[u8], marks: &[u64], size: usize)
     ensures { vectors.new ≡ copied size (length marks.now * 64) marks.now from.now vectors.old }
 {
     let mut at = 0;
+    // No `for`: where the walk goes on follows from what it found.
     while let Some(i) = bitmaps::inner::next(marks, at) {
         copy_slot(vectors, from, i * size, size);
         at = i + 1;

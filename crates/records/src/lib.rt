@@ -44,7 +44,7 @@ pub enum Request {
     Search(u32, u32, u32),
 }
 
-// Whether the numbers lie within the program's limits, so that its memory has room.
+// Whether the numbers lie within the program's limits, so that its memory has room. (A test and no type: `asked` takes any session.)
 #[tactic(auto, unfolding(crate::specs::Requests::within_limits))]
 fn within_limits(g: Session) -> bool
     ensures { result ≡ within_limits g }

@@ -15,6 +15,7 @@ pub mod inner;
 
 /// The list: the first len places of ids and sims, best first; k is how many it may hold, and checked counts the entries fed to it.
 /// Well formed: k no more than 256, len no more than k, no score NaN, and zero bits alone behind the last entry.
+/// (Two fixed arrays and a length: nothing is allocated, and the C layer copies each array by itself.)
 #[derive(Clone, Copy, Debug)]
 pub struct ResultSet {
     pub ids: [u32; 256],

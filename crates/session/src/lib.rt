@@ -40,7 +40,7 @@ pub struct Ran {
     pub next: Next,
 }
 
-// What the end of the input prints: the first len bytes of text.
+// What the end of the input prints: the first len bytes of text. (A fixed array with its length: nothing is allocated.)
 #[derive(Clone, Copy)]
 pub struct Last {
     pub text: [u8; 64],

@@ -55,7 +55,7 @@ fn above(a: u64, c: u64) -> u64
 }
 
 // The largest r with r * r <= a, by halving the span between a candidate that is not too large and one that is. The span
-// starts around the guess, so that a turn or two are enough.
+// starts around the guess, so that a turn or two are enough. (A loop: a span that halves is no range, and the rules name this form.)
 fn whole_root(a: u64) -> u64
     requires { a < 2 ^ 50 }
     ensures { (result * result ≤ a) × (a < (result + 1) * (result + 1)) }

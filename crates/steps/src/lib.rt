@@ -10,6 +10,7 @@ use records::Session;
 pub mod inner;
 
 // All of the program's state in one value. The arrays have room for the largest geometry that the program takes; a smaller one uses their front.
+// (Fixed arrays: nothing is allocated.)
 #[derive(Clone, Copy)]
 pub struct Store {
     pub session: Session,

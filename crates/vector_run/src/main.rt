@@ -57,7 +57,7 @@ fn of_spill(rt: &impl Print, spill: usize, a: &mut [f32]) {
     show_floats(rt, a);
 }
 
-// Puts one case to its call, and writes what is answered.
+// Puts one case to its call, and writes what is answered. (A match on the kind's number, which is read here alone.)
 fn answer(rt: &impl Print, kind: u64, number: usize, a: &mut [f32], b: &mut [f32]) {
     match kind {
         1 => put_float(rt, vector::dot_product(a, b)),

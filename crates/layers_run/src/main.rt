@@ -7,9 +7,9 @@
 
 use counting_bitmap::Counts;
 use paper::Refusal;
-use recorded::inner::{fill, letter, number, show_all};
+use recorded::buffered::{letter, load, number, read_input};
+use recorded::inner::show_all;
 use std::io;
-use std::io::Read;
 
 // The dropped count, and what stands in both memories.
 fn show_merged(
@@ -77,32 +77,27 @@ fn call(
     println!(rt; "")
 }
 
-fn main(rt: HostRuntime) -> io::Result<()> {
-    let mut input = rt.reader();
+fn main(rt: HostRuntime) {
+    let mut buffer = [0u8; 131072];
+    let mut input = read_input(&mut buffer).iter();
     let mut a = [0u64; 1056];
     let mut b = [0u64; 1056];
     let mut first = 0;
     let mut second = 0;
     for _ in 0..u64::MAX {
-        let Some(letter) = letter(&mut input)? else {
+        let Some(letter) = letter(&mut input) else {
             break;
         };
-        let x = number(&mut input)? as usize;
         match letter {
-            b'a' => {
-                first = x.min(a.len());
-                fill(&mut input, &mut a[..first], |w| w)?;
-            }
-            b'b' => {
-                second = x.min(b.len());
-                fill(&mut input, &mut b[..second], |w| w)?;
-            }
+            b'a' => first = load(&mut input, &mut a),
+            b'b' => second = load(&mut input, &mut b),
             _ => {
-                let n = number(&mut input)? as usize;
-                let k = number(&mut input)? as usize;
-                call(&rt, letter, x, n, k, &mut a[..first], &mut b[..second])?;
+                let cap = number(&mut input) as usize;
+                let n = number(&mut input) as usize;
+                let k = number(&mut input) as usize;
+                // A failed write is passed over.
+                let _ = call(&rt, letter, cap, n, k, &mut a[..first], &mut b[..second]);
             }
         }
     }
-    Ok(())
 }

@@ -12,19 +12,33 @@ ghost use Rattle.std.specs.Prelude.{◌≡◌};
 ghost use Rattle.result.specs.Sets.{feed_of, fed_or};
 
 use paper::Refusal;
-use recorded::inner::{float, low, next_number, number, show_floats};
+use recorded::buffered::read_input;
+use recorded::inner::show_floats;
+use result::inner::empty;
 use result::{ResultSet, SearchResult};
 use std::io;
-use std::io::Read;
+
+// Eight digits and the byte behind them.
+type Word = [u8; 9];
 
 // ---- reading
 
-fn id(input: &mut impl Read) -> io::Result<u32> {
-    Ok(low(number(input)?))
+// What a hexadecimal digit stands for, and some number for any other byte.
+fn digit(b: u8) -> u32 {
+    u32::from((b & 15) + (b >> 6) * 9) & 15
 }
 
-fn score(input: &mut impl Read) -> io::Result<f32> {
-    Ok(float(number(input)?))
+// The next word, and 0 past the end.
+fn number(words: &mut &[Word]) -> u32 {
+    let Some((word, rest)) = words.split_first() else {
+        return 0;
+    };
+    *words = rest;
+    word.iter().take(8).fold(0, |value, b| value << 4 | digit(*b))
+}
+
+fn score(words: &mut &[Word]) -> f32 {
+    sqrt::of_bits(number(words))
 }
 
 // One feed of a set that stays in a local and is lent.
@@ -46,36 +60,38 @@ fn fed(set: ResultSet, id: u32, similarity: f32, in_place: bool) -> Result<Resul
     set.feed(id, similarity)
 }
 
-// The set that k, m and m entries leave; a refusal ends the feeding.
-fn grown(input: &mut impl Read, in_place: bool) -> io::Result<Result<ResultSet, Refusal>> {
-    let k = number(input)? as usize;
-    let m = number(input)?;
-    let mut last = ResultSet::new(k);
+// The set becomes the one that k, m and m entries leave; a refusal ends the feeding.
+fn grow(words: &mut &[Word], set: &mut ResultSet, in_place: bool) -> Result<(), Refusal> {
+    let k = number(words) as usize;
+    let m = number(words) as usize;
+    let mut entries: &[Word] = words;
+    *words = words.get(2 * m..).unwrap_or(&[]);
+    *set = ResultSet::new(k)?;
     for _ in 0..m {
-        let id = id(input)?;
-        let similarity = score(input)?;
-        last = last.and_then(|set| fed(set, id, similarity, in_place));
+        let id = number(&mut entries);
+        let similarity = score(&mut entries);
+        *set = fed(*set, id, similarity, in_place)?;
     }
-    Ok(last)
+    Ok(())
 }
 
 // A set with six words for k, len, checked, a place, and the id and score there.
-fn made_up(input: &mut impl Read) -> io::Result<ResultSet> {
+fn made_up(words: &mut &[Word]) -> ResultSet {
     let mut set = ResultSet {
         ids: [0; 256],
         sims: [0.0; 256],
-        k: number(input)? as usize,
-        len: number(input)? as usize,
-        checked: low(number(input)?),
+        k: number(words) as usize,
+        len: number(words) as usize,
+        checked: number(words),
     };
-    let place = number(input)? as usize;
-    let id = id(input)?;
-    let similarity = score(input)?;
+    let place = number(words) as usize;
+    let id = number(words);
+    let similarity = score(words);
     if place < 256 {
         set.ids[place] = id;
         set.sims[place] = similarity;
     }
-    Ok(set)
+    set
 }
 
 // ---- showing
@@ -98,13 +114,6 @@ fn show(rt: &impl Print, set: ResultSet) -> io::Result<()> {
     println!(rt; "")
 }
 
-fn show_grown(rt: &impl Print, answer: Result<ResultSet, Refusal>) -> io::Result<()> {
-    match answer {
-        Ok(set) => show(rt, set),
-        Err(refusal) => println!(rt; "{refusal}"),
-    }
-}
-
 fn show_recall(rt: &impl Print, answer: Result<f64, Refusal>) -> io::Result<()> {
     match answer {
         Ok(x) => {
@@ -124,28 +133,30 @@ fn yes(b: bool) -> &'static str {
 
 // ---- cases
 
-// The recall of a set against another, where both were fed.
-fn recall(
-    a: Result<ResultSet, Refusal>,
-    b: Result<ResultSet, Refusal>,
-    at: u32,
-) -> Result<f64, Refusal> {
-    a?.compute_recall(b?, at)
+// Kinds 0 and 1.
+fn feeding(rt: &impl Print, words: &mut &[Word], in_place: bool) -> io::Result<()> {
+    let mut set = empty(0);
+    match grow(words, &mut set, in_place) {
+        Ok(()) => show(rt, set),
+        Err(refusal) => println!(rt; "{refusal}"),
+    }
 }
 
-// Kind 2.
-fn recalling(rt: &impl Print, input: &mut impl Read) -> io::Result<()> {
-    let at = low(number(input)?);
-    let a = grown(input, false)?;
-    let b = grown(input, false)?;
-    show_recall(rt, recall(a, b, at))
+// Kind 2. Of a refused feeding it takes what it left.
+fn recalling(rt: &impl Print, words: &mut &[Word]) -> io::Result<()> {
+    let at = number(words);
+    let mut a = empty(0);
+    let mut b = empty(0);
+    let _ = grow(words, &mut a, false);
+    let _ = grow(words, &mut b, false);
+    show_recall(rt, a.compute_recall(b, at))
 }
 
 // Kind 3.
-fn refusing(rt: &impl Print, input: &mut impl Read) -> io::Result<()> {
-    let set = made_up(input)?;
-    let id = id(input)?;
-    let similarity = score(input)?;
+fn refusing(rt: &impl Print, words: &mut &[Word]) -> io::Result<()> {
+    let set = made_up(words);
+    let id = number(words);
+    let similarity = score(words);
     print!(rt; "{} {} ", yes(set.well_formed()), yes(set.is_empty()))?;
     let answer = set.feed(id, similarity);
     let after = answer.unwrap_or(set);
@@ -153,26 +164,31 @@ fn refusing(rt: &impl Print, input: &mut impl Read) -> io::Result<()> {
 }
 
 // Kind 4.
-fn recall_refusing(rt: &impl Print, input: &mut impl Read) -> io::Result<()> {
-    let at = low(number(input)?);
-    let a = made_up(input)?;
-    let b = made_up(input)?;
+fn recall_refusing(rt: &impl Print, words: &mut &[Word]) -> io::Result<()> {
+    let at = number(words);
+    let a = made_up(words);
+    let b = made_up(words);
     println!(rt; "{}", paper::code(a.compute_recall(b, at)))
 }
 
-fn main(rt: HostRuntime) -> io::Result<()> {
-    let mut input = rt.reader();
-    for _ in 0..u64::MAX {
-        let Some(kind) = next_number(&mut input)? else {
-            break;
-        };
-        match kind {
-            0 => show_grown(&rt, grown(&mut input, false)?)?,
-            1 => show_grown(&rt, grown(&mut input, true)?)?,
-            2 => recalling(&rt, &mut input)?,
-            3 => refusing(&rt, &mut input)?,
-            _ => recall_refusing(&rt, &mut input)?,
-        }
+fn case(rt: &impl Print, words: &mut &[Word]) -> io::Result<()> {
+    match number(words) {
+        0 => feeding(rt, words, false),
+        1 => feeding(rt, words, true),
+        2 => recalling(rt, words),
+        3 => refusing(rt, words),
+        _ => recall_refusing(rt, words),
     }
-    Ok(())
+}
+
+fn main(rt: HostRuntime) {
+    let mut buffer = [0u8; 262144];
+    let (mut words, _) = read_input(&mut buffer).as_chunks();
+    for _ in 0..u64::MAX {
+        if words.is_empty() {
+            break;
+        }
+        // A failed write is passed over.
+        let _ = case(&rt, &mut words);
+    }
 }

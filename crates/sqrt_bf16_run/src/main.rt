@@ -1,10 +1,10 @@
 // Runs the square root, lowering and widening on patterns whose answers came from the published Rust (README.md), and prints
 // each pattern with its answer. Standard input is records of five bytes: 0 for a root, 1 for lowering, 2 for widening; then the
-// pattern in four bytes, the lowest first.
+// pattern in four bytes, the lowest first. 65,536 bytes of it are read.
 #![tactic(auto)]
 
+use recorded::buffered::read_input;
 use std::io;
-use std::io::Read;
 
 // A line: the pattern and the answer.
 fn run(rt: &impl Print, kind: u8, bits: u32) -> io::Result<()> {
@@ -25,16 +25,18 @@ fn run(rt: &impl Print, kind: u8, bits: u32) -> io::Result<()> {
     }
 }
 
-fn main(rt: HostRuntime) -> io::Result<()> {
-    let mut input = rt.reader();
-    let mut kind = [0u8; 1];
-    let mut pattern = [0u8; 4];
-    for _ in 0..u64::MAX {
-        if input.read(&mut kind)? == 0 {
-            break;
-        }
-        input.read_exact(&mut pattern)?;
-        run(&rt, kind[0], u32::from_le_bytes(pattern))?;
+// Every whole record, in order.
+fn run_all(rt: &impl Print, input: &[u8]) -> io::Result<()> {
+    let (records, _) = input.as_chunks::<5>();
+    for record in records {
+        let [kind, a, b, c, d] = *record;
+        run(rt, kind, u32::from_le_bytes([a, b, c, d]))?;
     }
     Ok(())
+}
+
+fn main(rt: HostRuntime) {
+    let mut buffer = [0u8; 65536];
+    // A failed write ends the run, and no more.
+    let _ = run_all(&rt, read_input(&mut buffer));
 }

@@ -8,73 +8,58 @@
 use counting_bitmap::Counts;
 use paper::Refusal;
 use recorded::buffered::{letter, load, number, read_input};
-use recorded::inner::show_all;
-use std::io;
+use recorded::inner::{passed_over, show_all};
 
 // The dropped count, and what stands in both memories.
-fn show_merged(
-    rt: &impl Print,
-    answer: Result<u32, Refusal>,
-    a: &[u64],
-    b: &[u64],
-) -> io::Result<()> {
+fn show_merged(rt: &impl Print, answer: Result<u32, Refusal>, a: &[u64], b: &[u64]) {
     match answer {
-        Ok(n) => print!(rt; "dropped {n}")?,
-        Err(refusal) => print!(rt; "{refusal}")?,
+        Ok(n) => passed_over(print!(rt; "dropped {n}")),
+        Err(refusal) => passed_over(print!(rt; "{refusal}")),
     }
-    show_all(rt, a, 1)?;
-    print!(rt; " |")?;
-    show_all(rt, b, 1)
+    show_all(rt, a, 1);
+    passed_over(print!(rt; " |"));
+    show_all(rt, b, 1);
 }
 
 // The counts, each after a blank, and `left` for each place past them that is not 0.
-fn show_counts(rt: &impl Print, answer: Counts) -> io::Result<()> {
-    print!(rt; "counts")?;
+fn show_counts(rt: &impl Print, answer: Counts) {
+    passed_over(print!(rt; "counts"));
     for (i, count) in answer.counts.iter().enumerate() {
         if i < answer.count {
-            print!(rt; " {count}")?;
+            passed_over(print!(rt; " {count}"));
         } else if *count != 0 {
-            print!(rt; " left")?;
+            passed_over(print!(rt; " left"));
         }
     }
-    Ok(())
 }
 
-fn show_counted(rt: &impl Print, answer: Result<Counts, Refusal>) -> io::Result<()> {
+fn show_counted(rt: &impl Print, answer: Result<Counts, Refusal>) {
     match answer {
         Ok(counts) => show_counts(rt, counts),
-        Err(refusal) => print!(rt; "{refusal}"),
+        Err(refusal) => passed_over(print!(rt; "{refusal}")),
     }
 }
 
-fn show_chosen(rt: &impl Print, answer: Result<usize, Refusal>) -> io::Result<()> {
+fn show_chosen(rt: &impl Print, answer: Result<usize, Refusal>) {
     match answer {
-        Ok(i) => print!(rt; "layer {i}"),
-        Err(refusal) => print!(rt; "{refusal}"),
+        Ok(i) => passed_over(print!(rt; "layer {i}")),
+        Err(refusal) => passed_over(print!(rt; "{refusal}")),
     }
 }
 
 // The call that a letter names; none for any other letter.
-fn call(
-    rt: &impl Print,
-    letter: u8,
-    cap: usize,
-    n: usize,
-    k: usize,
-    a: &mut [u64],
-    b: &mut [u64],
-) -> io::Result<()> {
+fn call(rt: &impl Print, letter: u8, cap: usize, n: usize, k: usize, a: &mut [u64], b: &mut [u64]) {
     match letter {
-        b'm' => show_merged(rt, counting_bitmap::or(cap, n, a, b), a, b)?,
-        b'g' => show_counted(rt, counting_bitmap::cardinalities(cap, n, a))?,
+        b'm' => show_merged(rt, counting_bitmap::or(cap, n, a, b), a, b),
+        b'g' => show_counted(rt, counting_bitmap::cardinalities(cap, n, a)),
         b'p' => {
-            print!(rt; "part")?;
-            show_all(rt, counting_bitmap::top_k(cap, n, a, k), 1)?;
+            passed_over(print!(rt; "part"));
+            show_all(rt, counting_bitmap::top_k(cap, n, a, k), 1);
         }
-        b'q' => show_chosen(rt, counting_bitmap::top_k_number(cap, n, a, k))?,
+        b'q' => show_chosen(rt, counting_bitmap::top_k_number(cap, n, a, k)),
         _ => {}
     }
-    println!(rt; "")
+    passed_over(println!(rt));
 }
 
 fn main(rt: HostRuntime) {
@@ -95,8 +80,7 @@ fn main(rt: HostRuntime) {
                 let cap = number(&mut input) as usize;
                 let n = number(&mut input) as usize;
                 let k = number(&mut input) as usize;
-                // A failed write is passed over.
-                let _ = call(&rt, letter, cap, n, k, &mut a[..first], &mut b[..second]);
+                call(&rt, letter, cap, n, k, &mut a[..first], &mut b[..second]);
             }
         }
     }

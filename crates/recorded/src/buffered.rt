@@ -1,7 +1,8 @@
-// The same from a buffer: a program that reads its whole input first sees as much of it as its buffer holds. Here a number has any number of digits, of which
-// the last sixteen count, and only lower-case letters are digits.
+// Cases from a buffer: a program that reads its whole input first sees as much of it as its buffer holds. Here a number has any number of digits, of which
+// the last sixteen count.
 ghost use Rattle.std.specs.Prelude.{◌≤◌, length};
 
+use super::inner::digit;
 use std::slice;
 
 // The descriptor of the standard input.
@@ -18,15 +19,6 @@ pub fn letter(input: &mut slice::Iter<'_, u8>) -> Option<u8> {
     let letter = *input.next()?;
     input.next()?;
     Some(letter)
-}
-
-// What a hexadecimal digit stands for.
-fn digit(b: u8) -> Option<u64> {
-    match b {
-        b'0'..=b'9' => Some(u64::from(b - b'0')),
-        b'a'..=b'f' => Some(u64::from(b - b'a' + 10)),
-        _ => None,
-    }
 }
 
 // The next number; the byte after it is passed over. 0 where the input ends.

@@ -40,7 +40,7 @@ pub fn byte(n: u64) -> u8
 }
 
 // What a hexadecimal digit stands for, in lower case; None for any other byte.
-fn digit(b: u8) -> Option<u64> {
+pub(super) fn digit(b: u8) -> Option<u64> {
     match b {
         b'0'..=b'9' => Some(u64::from(b - b'0')),
         b'a'..=b'f' => Some(u64::from(b - b'a') + 10),

@@ -13,10 +13,9 @@ ghost use Rattle.result.specs.Sets.{feed_of, fed_or};
 
 use paper::Refusal;
 use recorded::buffered::read_input;
-use recorded::inner::show_floats;
+use recorded::inner::{passed_over, show_float};
 use result::inner::empty;
 use result::{ResultSet, SearchResult};
-use std::io;
 
 // Eight digits and the byte behind them.
 type Word = [u8; 9];
@@ -34,7 +33,9 @@ fn number(words: &mut &[Word]) -> u32 {
         return 0;
     };
     *words = rest;
-    word.iter().take(8).fold(0, |value, b| value << 4 | digit(*b))
+    word.iter()
+        .take(8)
+        .fold(0, |value, b| value << 4 | digit(*b))
 }
 
 fn score(words: &mut &[Word]) -> f32 {
@@ -96,34 +97,34 @@ fn made_up(words: &mut &[Word]) -> ResultSet {
 
 // ---- showing
 
-fn show_entry(rt: &impl Print, e: SearchResult) -> io::Result<()> {
-    print!(rt; " {}", e.id)?;
-    show_floats(rt, &[e.similarity])
+fn show_entry(rt: &impl Print, e: SearchResult) {
+    passed_over(print!(rt; " {}", e.id));
+    show_float(rt, e.similarity);
 }
 
 // The count, the length and the entries.
-fn show(rt: &impl Print, set: ResultSet) -> io::Result<()> {
+fn show(rt: &impl Print, set: ResultSet) {
     let n = set.len();
-    print!(rt; "{} {n}", set.checked)?;
+    passed_over(print!(rt; "{} {n}", set.checked));
     for i in 0..n {
         match set.result_at(i) {
-            Some(e) => show_entry(rt, e)?,
-            None => print!(rt; " ")?,
+            Some(e) => show_entry(rt, e),
+            None => passed_over(print!(rt; " ")),
         }
     }
-    println!(rt; "")
+    passed_over(println!(rt));
 }
 
-fn show_recall(rt: &impl Print, answer: Result<f64, Refusal>) -> io::Result<()> {
+fn show_recall(rt: &impl Print, answer: Result<f64, Refusal>) {
     match answer {
         Ok(x) => {
             if x.is_nan() {
-                println!(rt; "nan")
+                passed_over(println!(rt; "nan"));
             } else {
-                println!(rt; "{:016x}", x.to_bits())
+                passed_over(println!(rt; "{:016x}", x.to_bits()));
             }
         }
-        Err(refusal) => println!(rt; "{refusal}"),
+        Err(refusal) => passed_over(println!(rt; "{refusal}")),
     }
 }
 
@@ -134,16 +135,16 @@ fn yes(b: bool) -> &'static str {
 // ---- cases
 
 // Kinds 0 and 1.
-fn feeding(rt: &impl Print, words: &mut &[Word], in_place: bool) -> io::Result<()> {
+fn feeding(rt: &impl Print, words: &mut &[Word], in_place: bool) {
     let mut set = empty(0);
     match grow(words, &mut set, in_place) {
         Ok(()) => show(rt, set),
-        Err(refusal) => println!(rt; "{refusal}"),
+        Err(refusal) => passed_over(println!(rt; "{refusal}")),
     }
 }
 
 // Kind 2. Of a refused feeding it takes what it left.
-fn recalling(rt: &impl Print, words: &mut &[Word]) -> io::Result<()> {
+fn recalling(rt: &impl Print, words: &mut &[Word]) {
     let at = number(words);
     let mut a = empty(0);
     let mut b = empty(0);
@@ -153,25 +154,25 @@ fn recalling(rt: &impl Print, words: &mut &[Word]) -> io::Result<()> {
 }
 
 // Kind 3.
-fn refusing(rt: &impl Print, words: &mut &[Word]) -> io::Result<()> {
+fn refusing(rt: &impl Print, words: &mut &[Word]) {
     let set = made_up(words);
     let id = number(words);
     let similarity = score(words);
-    print!(rt; "{} {} ", yes(set.well_formed()), yes(set.is_empty()))?;
+    passed_over(print!(rt; "{} {} ", yes(set.well_formed()), yes(set.is_empty())));
     let answer = set.feed(id, similarity);
     let after = answer.unwrap_or(set);
-    println!(rt; "{} {} {}", paper::code(answer), after.len, after.checked)
+    passed_over(println!(rt; "{} {} {}", paper::code(answer), after.len, after.checked));
 }
 
 // Kind 4.
-fn recall_refusing(rt: &impl Print, words: &mut &[Word]) -> io::Result<()> {
+fn recall_refusing(rt: &impl Print, words: &mut &[Word]) {
     let at = number(words);
     let a = made_up(words);
     let b = made_up(words);
-    println!(rt; "{}", paper::code(a.compute_recall(b, at)))
+    passed_over(println!(rt; "{}", paper::code(a.compute_recall(b, at))));
 }
 
-fn case(rt: &impl Print, words: &mut &[Word]) -> io::Result<()> {
+fn case(rt: &impl Print, words: &mut &[Word]) {
     match number(words) {
         0 => feeding(rt, words, false),
         1 => feeding(rt, words, true),
@@ -188,7 +189,6 @@ fn main(rt: HostRuntime) {
         if words.is_empty() {
             break;
         }
-        // A failed write is passed over.
-        let _ = case(&rt, &mut words);
+        case(&rt, &mut words);
     }
 }

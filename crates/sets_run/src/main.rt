@@ -8,66 +8,58 @@
 
 use paper::Refusal;
 use recorded::buffered::{letter, load, number, read_input};
-use recorded::inner::show_all;
-use std::io;
+use recorded::inner::{passed_over, show_all};
 
-fn show_asked(rt: &impl Print, answer: Result<bool, Refusal>) -> io::Result<()> {
+fn show_asked(rt: &impl Print, answer: Result<bool, Refusal>) {
     match answer {
-        Ok(true) => print!(rt; "yes"),
-        Ok(false) => print!(rt; "no"),
-        Err(refusal) => print!(rt; "{refusal}"),
+        Ok(true) => passed_over(print!(rt; "yes")),
+        Ok(false) => passed_over(print!(rt; "no")),
+        Err(refusal) => passed_over(print!(rt; "{refusal}")),
     }
 }
 
-fn show_counted(rt: &impl Print, answer: Result<u32, Refusal>) -> io::Result<()> {
+fn show_counted(rt: &impl Print, answer: Result<u32, Refusal>) {
     match answer {
-        Ok(n) => print!(rt; "{n}"),
-        Err(refusal) => print!(rt; "{refusal}"),
+        Ok(n) => passed_over(print!(rt; "{n}")),
+        Err(refusal) => passed_over(print!(rt; "{refusal}")),
     }
 }
 
-fn show_walked(rt: &impl Print, answer: Result<Option<usize>, Refusal>) -> io::Result<()> {
+fn show_walked(rt: &impl Print, answer: Result<Option<usize>, Refusal>) {
     match answer {
-        Ok(Some(i)) => print!(rt; "at {i}"),
-        Ok(None) => print!(rt; "nothing"),
-        Err(refusal) => print!(rt; "{refusal}"),
+        Ok(Some(i)) => passed_over(print!(rt; "at {i}")),
+        Ok(None) => passed_over(print!(rt; "nothing")),
+        Err(refusal) => passed_over(print!(rt; "{refusal}")),
     }
 }
 
 // A call that changes the first memory: its number and the words after it.
-fn show_changed(rt: &impl Print, answer: Result<(), Refusal>, words: &[u64]) -> io::Result<()> {
-    print!(rt; "{}", paper::code(answer))?;
-    show_all(rt, words, 1)
+fn show_changed(rt: &impl Print, answer: Result<(), Refusal>, words: &[u64]) {
+    passed_over(print!(rt; "{}", paper::code(answer)));
+    show_all(rt, words, 1);
 }
 
 // The same of a call on both memories, and the words of the second.
-fn show_both(rt: &impl Print, answer: Result<(), Refusal>, a: &[u64], b: &[u64]) -> io::Result<()> {
-    show_changed(rt, answer, a)?;
-    show_all(rt, b, 1)
+fn show_both(rt: &impl Print, answer: Result<(), Refusal>, a: &[u64], b: &[u64]) {
+    show_changed(rt, answer, a);
+    show_all(rt, b, 1);
 }
 
 // The call that a letter names; none for any other letter.
-fn call(
-    rt: &impl Print,
-    letter: u8,
-    cap: usize,
-    x: usize,
-    a: &mut [u64],
-    b: &[u64],
-) -> io::Result<()> {
+fn call(rt: &impl Print, letter: u8, cap: usize, x: usize, a: &mut [u64], b: &[u64]) {
     match letter {
-        b'c' => show_changed(rt, bitmaps::clear(cap, a), a)?,
-        b'i' => show_changed(rt, bitmaps::add(cap, a, x), a)?,
-        b'n' => show_counted(rt, bitmaps::count(cap, a))?,
-        b'e' => show_asked(rt, bitmaps::is_empty(cap, a))?,
-        b'h' => show_asked(rt, bitmaps::contains(cap, a, x))?,
-        b'w' => show_walked(rt, bitmaps::next(cap, a, x))?,
-        b'o' => show_both(rt, bitmaps::or(cap, a, b), a, b)?,
-        b'x' => show_both(rt, bitmaps::xor(cap, a, b), a, b)?,
-        b'd' => show_both(rt, bitmaps::and_not(cap, a, b), a, b)?,
+        b'c' => show_changed(rt, bitmaps::clear(cap, a), a),
+        b'i' => show_changed(rt, bitmaps::add(cap, a, x), a),
+        b'n' => show_counted(rt, bitmaps::count(cap, a)),
+        b'e' => show_asked(rt, bitmaps::is_empty(cap, a)),
+        b'h' => show_asked(rt, bitmaps::contains(cap, a, x)),
+        b'w' => show_walked(rt, bitmaps::next(cap, a, x)),
+        b'o' => show_both(rt, bitmaps::or(cap, a, b), a, b),
+        b'x' => show_both(rt, bitmaps::xor(cap, a, b), a, b),
+        b'd' => show_both(rt, bitmaps::and_not(cap, a, b), a, b),
         _ => {}
     }
-    println!(rt; "")
+    passed_over(println!(rt));
 }
 
 fn main(rt: HostRuntime) {
@@ -87,8 +79,7 @@ fn main(rt: HostRuntime) {
             _ => {
                 let cap = number(&mut input) as usize;
                 let id = number(&mut input) as usize;
-                // A failed write is passed over.
-                let _ = call(&rt, letter, cap, id, &mut a[..first], &b[..second]);
+                call(&rt, letter, cap, id, &mut a[..first], &b[..second]);
             }
         }
     }

@@ -63,7 +63,7 @@ fn normalize_into(v: &[f32], work: &mut [f32]) -> Result<(), Refusal>
 }
 
 // The slot of the vector's face in each basis; 7 as soon as a projection has an entry that is not finite. Each basis is projected on once: the
-// slots wait here until every check has passed.
+// slots wait here until every check has passed, in a fixed array, since nothing is allocated.
 fn slots_of(bases: &[f32], v: &[f32], work: &mut [f32], g: Geometry) -> Result<[usize; 32], Refusal>
     requires { SlotArgs g.d g.n (length bases.now) (length v.now) (length work.old) }
     ensures told { code_of result ≡ refuse 7 (projections_finite g.d bases.now v.now g.n) 0 }

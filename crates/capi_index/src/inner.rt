@@ -17,7 +17,7 @@ pub fn tell_three(counts: &mut [u32], a: u32, b: u32, c: u32)
     counts[2] = c;
 }
 
-// What a search found into the arrays, with its length, its count and what it dropped told; a refused search changes nothing. The answer is the refusal's number.
+// What a search found into the arrays, with its length, its count and what it dropped told; a refused search changes nothing. The answer is the refusal's number, as C has it.
 pub fn put_nearest(
     nearest: Result<Nearest, Refusal>,
     ids: &mut [u32],

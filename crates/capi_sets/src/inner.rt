@@ -37,7 +37,7 @@ pub fn put_list(set: ResultSet, ids: &mut [u32], scores: &mut [f32])
     copy_front(&set.sims, set.len, scores);
 }
 
-// A ranked set into the arrays, with its length and count told; a refused one changes nothing. The answer is the refusal's number.
+// A ranked set into the arrays, with its length and count told; a refused one changes nothing. The answer is the refusal's number, as C has it.
 pub fn put_fed(
     fed: Result<ResultSet, Refusal>,
     ids: &mut [u32],

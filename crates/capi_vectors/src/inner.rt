@@ -5,7 +5,7 @@ ghost use Rattle.capi_vectors.specs.Projections.{dims_ok};
 
 use paper::Refusal;
 
-// One value into its place; a refusal keeps it. The answer is the refusal's number.
+// One value into its place; a refusal keeps it. The answer is the refusal's number, as C has it.
 pub fn put_one<T: Copy>(answer: Result<T, Refusal>, out: &mut [T]) -> u32
     requires { length out.old ≡ 1 }
     ensures { single result out.new ≡ put answer out.old }

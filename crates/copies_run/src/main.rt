@@ -53,6 +53,7 @@ fn read_line(rt: &impl Print, input: &mut impl Read) {
 
 fn main(rt: HostRuntime) {
     let mut input = rt.reader();
+    // As many cases as there are: a count that is never used up.
     for _ in 0..u64::MAX {
         match letter(&mut input) {
             b'c' => copy_line(&rt, &mut input),

@@ -47,7 +47,7 @@ pub fn put_decimal(out: &mut [u8], at: usize, n: u32) -> usize
     put_text(out, at, trimmed_part(&digits))
 }
 
-// One hexadecimal digit, upper case.
+// One hexadecimal digit, upper case. (By hand for the same reason.)
 fn glyph(x: u32) -> u8
     requires { x ≤ 15 }
     ensures { result ≡ glyph x }

@@ -5,7 +5,8 @@ ghost use Rattle.lines.specs.Laws.{Laws};
 
 pub mod inner;
 
-// What one record comes to, but for a search's list: `refused N`, `geometry d n C mode`, `basis b`, `added id`, `found L checked c`.
+// What one record comes to, but for a search's list: `refused N`, `geometry d n C mode`, `basis b`, `added id`, `found L checked c`. (The kinds of a line, a refusal's among them, by any
+// number: no Result, and `put_told` takes each.)
 #[derive(Clone, Copy, Debug, PartialEq, Eq)]
 pub enum Told {
     Refused(u32),

@@ -39,7 +39,7 @@ pub fn byte(n: u64) -> u8
     (n & 0xff) as u8
 }
 
-// What a hexadecimal digit stands for, in lower case; None for any other byte.
+// What a hexadecimal digit stands for, in lower case; None for any other byte. (By hand: `to_digit` takes upper case too.)
 pub(super) fn digit(b: u8) -> Option<u64> {
     match b {
         b'0'..=b'9' => Some(u64::from(b - b'0')),

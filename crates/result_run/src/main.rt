@@ -22,7 +22,7 @@ type Word = [u8; 9];
 
 // ---- reading
 
-// What a hexadecimal digit stands for, and some number for any other byte.
+// What a hexadecimal digit stands for, and some number for any other byte. (By hand: `to_digit` has no number for those.)
 fn digit(b: u8) -> u32 {
     u32::from((b & 15) + (b >> 6) * 9) & 15
 }
@@ -185,6 +185,7 @@ fn case(rt: &impl Print, words: &mut &[Word]) {
 fn main(rt: HostRuntime) {
     let mut buffer = [0u8; 262144];
     let (mut words, _) = read_input(&mut buffer).as_chunks();
+    // As many cases as there are: a count that is never used up.
     for _ in 0..u64::MAX {
         if words.is_empty() {
             break;

@@ -69,6 +69,7 @@ fn main(rt: HostRuntime) {
     let mut b = [0u64; 1056];
     let mut first = 0;
     let mut second = 0;
+    // As many cases as there are: a count that is never used up.
     for _ in 0..u64::MAX {
         let Some(letter) = letter(&mut input) else {
             break;

@@ -15,7 +15,7 @@ use paper::{Lengths, Refusal};
 use records::{Request, Session};
 use vector_store::{Nearest, Query};
 
-// How much of each memory the geometry uses.
+// How much of each memory the geometry uses. (Not `Geometry::lengths`, which is 0 throughout where a geometry is not good: a session may have no dimensions.)
 fn parts_of(g: Session) -> Lengths
     requires { Limits g }
     ensures { Parts g result }

@@ -57,7 +57,7 @@ fn of_spill(rt: &impl Print, spill: usize, a: &mut [f32]) {
     show_floats(rt, a);
 }
 
-// Puts one case to its call, and writes what is answered. (A match on the kind's number, which is read here alone.)
+// Puts one case to its call, and writes what is answered. (By the number of the input; `one_case` looks only whether it is 0.)
 fn answer(rt: &impl Print, kind: u64, number: usize, a: &mut [f32], b: &mut [f32]) {
     match kind {
         1 => put_float(rt, vector::dot_product(a, b)),
@@ -89,6 +89,7 @@ fn main(rt: HostRuntime) {
     let mut input = rt.reader();
     let mut a = [0.0f32; 1056];
     let mut b = [0.0f32; 1056];
+    // As many cases as there are: a count that is never used up.
     for _ in 0..u64::MAX {
         if !one_case(&rt, &mut input, &mut a, &mut b) {
             break;

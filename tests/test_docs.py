@@ -69,12 +69,12 @@ class Links(unittest.TestCase):
         self.assertGreater(seen, 30)
 
     def test_files_that_are_named_exist(self):
-        """Paths below a folder of the project, as docs/SCOPE.md or tools/tried, and pages at its root."""
+        """Paths below a folder of the project, as docs/SCOPE.md or tools/tried, and pages at its root; but for what a build makes in crates/NAME/out."""
         folders = "|".join(sorted(p.name for p in ROOT.iterdir() if p.is_dir() and not p.name.startswith(".") and p.name != "target"))
         seen = 0
         for page in PAGES:
             for name in re.findall(rf"(?<![\w./-])((?:{folders})/[\w./-]*\w|[A-Z]+\.md)(?![\w/*])", outside_code(page.read_text(encoding="utf-8"))):
-                if name.startswith("crates/NAME") or name.startswith("crates/CRATE") or (page.name == "PORT.md" and name in GONE):
+                if re.match(r"crates/(NAME|CRATE|\w+/out/)", name) or (page.name == "PORT.md" and name in GONE):
                     continue
                 with self.subTest(page=page.name, file=name):
                     seen += 1

@@ -58,7 +58,7 @@ fn normalize_into(v: &[f32], work: &mut [f32]) -> Result<(), Refusal>
     requires { length work.old ≡ length v.now }
     ensures { (code_of result ≡ norm_number v.now) × (work.new ≡ normalized v.now) }
 {
-    work.copy_from_slice(v);
+    paper::inner::copy_over(work, v);
     vector::normalize(work)
 }
 

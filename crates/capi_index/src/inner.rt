@@ -30,7 +30,7 @@ pub fn put_nearest(
 {
     match nearest {
         Ok(Nearest { set, dropped }) => {
-            put_list(set, ids, scores);
+            put_list(&set, ids, scores);
             tell_three(counts, set.len as u32, set.checked, dropped);
             0
         }

@@ -10,8 +10,9 @@ use lib.Ieee.{Float}
 use lib.ListN.{length, drop, get_or}
 use borrow.Author.Tests.{eq-eqb, ne_eqb, leb-true}
 use Rattle.std.proofs.Common.{Result, Ok, Err, IfOk, subst}
+use Rattle.std.specs.Result.{result_and}
 use Rattle.paper.specs.Choice.{pick}
-use Rattle.paper.specs.Refusals.{number_of}
+use Rattle.paper.specs.Refusals.{number_of, code_of}
 use Rattle.paper.specs.declared.Refusal.{Refusal}
 use Rattle.paper.proofs.Answering.{number_low}
 use Rattle.result.specs.Ranked.{Entry, entry}
@@ -51,36 +52,43 @@ some : (r : Refusal) → number_of r ≡ 0 → ⊥
 some r z = let low = number_low r in omega arith
 
 module _ (s : ResultSet) (i : ℕ) (is : List ℕ) (ss : List Float) (d : ℕ) (z : Float) (h : i < length is) (l : length is ≡ length ss) where
-  -- a refused feed ends it
-  pub feed_ends : (r : Refusal) → answer (number_of r) s ≡ feed_of s (get_or is i d) (get_or ss i z) → answer (number_of r) s ≡ feed_all_of s (rest i is ss)
-  feed_ends r e =
-      let k : answer (number_of r) s ≡ feed_all_of s (entry (get_or is i d) (get_or ss i z) ∷ rest (i + 1) is ss) = rw (← e, ne_eqb (number_of r) 0 (some r)) refl in
-      k ∙ ap (feed_all_of s) (sym (rest_turn i is ss d z h l))
+  -- what the feed of this turn answers
+  abbrev one : Fed
+  one = feed_of s (get_or is i d) (get_or ss i z)
+
+  turned : feed_all_of s (rest i is ss) ≡ pick (eqb one.refusal 0) (feed_all_of one.set (rest (i + 1) is ss)) one
+  turned = ap (feed_all_of s) (rest_turn i is ss d z h l)
+
+  -- a refused feed ends it, with the set that it left
+  pub feed_ends : (r : Refusal) (t : ResultSet) → number_of r ≡ one.refusal → t ≡ one.set → answer (number_of r) t ≡ feed_all_of s (rest i is ss)
+  feed_ends r t e f =
+      let k : pick (eqb one.refusal 0) (feed_all_of one.set (rest (i + 1) is ss)) one ≡ one = rw (← e, ne_eqb (number_of r) 0 (some r)) refl in
+      ap (λ (n : ℕ). answer n t) e ∙ ap (answer one.refusal) f ∙ sym k ∙ sym turned
 
   -- an accepted one goes on with the set that it gave
-  pub feed_goes : (t : ResultSet) → answer 0 t ≡ feed_of s (get_or is i d) (get_or ss i z) → feed_all_of t (rest (i + 1) is ss) ≡ feed_all_of s (rest i is ss)
-  feed_goes t e =
-      let k : feed_all_of t (rest (i + 1) is ss) ≡ feed_all_of s (entry (get_or is i d) (get_or ss i z) ∷ rest (i + 1) is ss) = rw (← e) refl in
-      k ∙ ap (feed_all_of s) (sym (rest_turn i is ss d z h l))
-
--- ---- the answers
-
--- a refused answer says what it was refused for
-pub told_refused : (f : Fed) (r : Refusal) (s : ResultSet) → answer (number_of r) s ≡ f → fed_or f.set (Err r) ≡ f
-told_refused f r s e = ap (λ (n : ℕ). answer n f.set) (ap (λ (x : Fed). x.refusal) e)
+  pub feed_goes : (t : ResultSet) → 0 ≡ one.refusal → t ≡ one.set → feed_all_of t (rest (i + 1) is ss) ≡ feed_all_of s (rest i is ss)
+  feed_goes t e f =
+      let k : pick (eqb one.refusal 0) (feed_all_of one.set (rest (i + 1) is ss)) one ≡ feed_all_of one.set (rest (i + 1) is ss) = rw (← e) refl in
+      ap (λ (u : ResultSet). feed_all_of u (rest (i + 1) is ss)) f ∙ sym k ∙ sym turned
 
 -- ---- a new set, fed
 
-fed_refused : (k : ℕ) (is : List ℕ) (ss : List Float) (r : Refusal) (s : ResultSet) → answer (number_of r) s ≡ made_of k → answer (number_of r) s ≡ feeding_of k is ss
+-- where no set is made, the empty one with k 0 is left
+pub made_refused : (k : ℕ) (is : List ℕ) (ss : List Float) (r : Refusal) (s : ResultSet) → answer (number_of r) s ≡ made_of k → answer (number_of r) s ≡ feeding_of k is ss
 unfolding feeding_of
-fed_refused k is ss r s e = rw (← e, ne_eqb (number_of r) 0 (some r)) refl
-
-pub made_refused : (k : ℕ) (is : List ℕ) (ss : List Float) (r : Refusal) (s : ResultSet) → answer (number_of r) s ≡ made_of k → fed_or (feeding_of k is ss).set (Err r) ≡ feeding_of k is ss
-made_refused k is ss r s e = told_refused (feeding_of k is ss) r s (fed_refused k is ss r s e)
+made_refused k is ss r s e = rw (← e, ne_eqb (number_of r) 0 (some r)) refl
 
 pub made_fed : (k : ℕ) (is : List ℕ) (ss : List Float) (s : ResultSet) → answer 0 s ≡ made_of k → feed_all_of s (entries (length is) is ss) ≡ feeding_of k is ss
 unfolding feeding_of
 made_fed k is ss s e = rw (← e) refl
+
+-- the set beside what feeding it answered, as one answer
+pub handed : {A : Type 0} (f : Fed) (a : Result A Refusal) (s : ResultSet) (r : Result ResultSet Refusal) → answer (code_of a) s ≡ f → r ≡ result_and a (Ok s) → fed_or f.set r ≡ f
+handed {A = A} f a s r e q = ap (fed_or f.set) q ∙ told a e
+  where
+    told : (a : Result A Refusal) → answer (code_of a) s ≡ f → fed_or f.set (result_and a (Ok s)) ≡ f
+    told (Ok x) e = e
+    told (Err k) e = ap (λ (n : ℕ). answer n f.set) (ap (λ (x : Fed). x.refusal) e)
 
 -- ---- its list is within k
 

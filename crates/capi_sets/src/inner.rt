@@ -2,12 +2,14 @@
 ghost use Rattle.std.specs.Prelude.{◌≡◌, ◌∷◌, [], length, IfOk};
 ghost use Rattle.capi_vectors.specs.Single.{laid_over};
 ghost use Rattle.result.specs.Places.{entries};
-ghost use Rattle.result.specs.Sets.{fed_or, feed_all_of};
+ghost use Rattle.paper.specs.Refusals.{code_of};
+ghost use Rattle.result.specs.Sets.{answer, feed_all_of};
 ghost use Rattle.capi_sets.specs.Lists.{room_ok, outs, listed, put_set, feeding_of, Fits};
 
 use capi_vectors::inner::copy_front;
 use paper::Refusal;
 use result::ResultSet;
+use result::inner::empty;
 
 // ---- a list in its arrays
 
@@ -29,9 +31,9 @@ pub fn tell_two(counts: &mut [u32], a: u32, b: u32)
 }
 
 // A list into the first places of ids and scores.
-pub fn put_list(set: ResultSet, ids: &mut [u32], scores: &mut [f32])
-    requires { Fits set (length ids.old) (length scores.old) }
-    ensures { (ids.new ≡ laid_over set.len set.ids ids.old) × (scores.new ≡ laid_over set.len set.sims scores.old) }
+pub fn put_list(set: &ResultSet, ids: &mut [u32], scores: &mut [f32])
+    requires { Fits set.now (length ids.old) (length scores.old) }
+    ensures { (ids.new ≡ laid_over set.now.len set.now.ids ids.old) × (scores.new ≡ laid_over set.now.len set.now.sims scores.old) }
 {
     copy_front(&set.ids, set.len, ids);
     copy_front(&set.sims, set.len, scores);
@@ -50,7 +52,7 @@ pub fn put_fed(
 {
     match fed {
         Ok(set) => {
-            put_list(set, ids, scores);
+            put_list(&set, ids, scores);
             tell_two(counts, set.len as u32, set.checked);
             0
         }
@@ -60,23 +62,23 @@ pub fn put_fed(
 
 // ---- feeding
 
-// Feeds the pairs of two arrays in turn. The first refusal comes back, without the set as it had been fed up to then.
-pub fn feed_all(set: ResultSet, ids: &[u32], scores: &[f32]) -> Result<ResultSet, Refusal>
+// Feeds the pairs of two arrays in turn, up to the first refusal: the set is then as it had been fed up to there.
+pub fn feed_all(set: &mut ResultSet, ids: &[u32], scores: &[f32]) -> Result<(), Refusal>
     requires { length ids.now ≡ length scores.now }
-    ensures { let fed = feed_all_of set (entries (length ids.now) ids.now scores.now) in fed_or fed.set result ≡ fed }
+    ensures { answer (code_of result) set.new ≡ feed_all_of set.old (entries (length ids.now) ids.now scores.now) }
 {
-    let mut kept = set;
     for i in 0..ids.len() {
-        kept = kept.feed(ids[i], scores[i])?;
+        set.add_result(ids[i], scores[i])?;
     }
-    Ok(kept)
+    Ok(())
 }
 
-// A new set with k, fed so.
-pub fn feed_new(k: usize, ids: &[u32], scores: &[f32]) -> Result<ResultSet, Refusal>
+// The set becomes a new one with k, fed so; where no set has that k, the empty one with k 0.
+pub fn feed_new(set: &mut ResultSet, k: usize, ids: &[u32], scores: &[f32]) -> Result<(), Refusal>
     requires { length ids.now ≡ length scores.now }
-    ensures { let fed = feeding_of k ids.now scores.now in fed_or fed.set result ≡ fed }
+    ensures { answer (code_of result) set.new ≡ feeding_of k ids.now scores.now }
 {
-    let set = ResultSet::new(k)?;
+    *set = empty(0);
+    *set = ResultSet::new(k)?;
     feed_all(set, ids, scores)
 }

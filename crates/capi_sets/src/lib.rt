@@ -76,6 +76,7 @@ pub extern "C" fn bbq_feed(
     if !inner::room_ok(k, 2, out_ids.len(), out_scores.len(), counts.len()) {
         return Refusal::WrongLength.into();
     }
-    let fed = inner::feed_new(k, ids, scores);
-    inner::put_fed(fed, out_ids, out_scores, counts)
+    let mut set = result::inner::empty(0);
+    let answer = inner::feed_new(&mut set, k, ids, scores);
+    inner::put_fed(answer.and(Ok(set)), out_ids, out_scores, counts)
 }

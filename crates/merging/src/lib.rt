@@ -29,7 +29,7 @@ fn copy_slot(vectors: &mut [u8], from: &[u8], at: usize, size: usize)
     requires { (at + size ≤ length vectors.old) × (length from.now ≡ length vectors.old) }
     ensures { vectors.new ≡ sets vectors.old at (take size (drop at from.now)) }
 {
-    vectors[at..at + size].copy_from_slice(&from[at..at + size]);
+    paper::inner::copy_over(&mut vectors[at..at + size], &from[at..at + size]);
 }
 
 // Copies the slots of the marked ids, and no others.

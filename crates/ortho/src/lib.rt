@@ -103,7 +103,7 @@ pub fn orthonormalize(
     if !vector::all_finite(basis) {
         return Err(Refusal::NotFinite);
     }
-    out.copy_from_slice(basis);
+    paper::inner::copy_over(out, basis);
     if all_rounds(out, d, rounds).is_err() {
         out.fill(0.0);
         return Err(Refusal::NoNorm);

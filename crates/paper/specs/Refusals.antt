@@ -1,5 +1,6 @@
 -- The refusals by their numbers, as the paper lists them, and what an answer says as a number.
-use Rattle.std.specs.Prelude.{ℕ, zero, suc, ◌≡◌, Result, Ok, Err}
+use Rattle.std.specs.Prelude.{ℕ, zero, suc, ◌≡◌, ◌++◌, List, Result, Ok, Err, codes}
+use Rattle.std.specs.Fmt.{decimal}
 use Rattle.paper.specs.declared.Refusal.{Refusal}
 use Rattle.paper.specs.declared.Refusal.TheVariants.{WrongGeometry, WrongLength, WrongId, WrongK, NotFinite, NoNorm, NoProjection, NoLayer, NoMark, NanScore, SharedId, FullCount, BadSet, NoRecall, BadRecord}
 
@@ -20,6 +21,10 @@ number_of FullCount = 12
 number_of BadSet = 13
 number_of NoRecall = 14
 number_of BadRecord = 15
+
+-- how a refusal is shown: the word `refused` and its number in decimal
+abbrev pub refused_text : Refusal → List ℕ
+refused_text r = codes "refused " ++ decimal (number_of r)
 
 -- the number of an answer: 0 for an accepted call, else the refusal's
 abbrev pub code_of : {A : Type 0} → Result A Refusal → ℕ

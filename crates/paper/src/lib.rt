@@ -56,6 +56,11 @@ impl From<Refusal> for u32 {
 }
 
 impl fmt::Display for Refusal {
+    ghost use Rattle.std.specs.Prelude.{Some};
+    ghost use Rattle.paper.specs.Refusals.{refused_text};
+
+    ghost output = { λ r. Some (refused_text r) };
+
     fn fmt<W: fmt::Write>(&self, f: &mut fmt::Formatter<W>) -> fmt::Result {
         write!(f, "refused {}", u32::from(*self))
     }

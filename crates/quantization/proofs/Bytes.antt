@@ -4,11 +4,11 @@ use mathlib.Core.List.{List, ◌∷◌}
 use Prim.Native.Nat.{ℕ, zero, suc, ◌+◌, ◌-◌, ◌*◌, ◌/◌, ◌%◌, ◌^◌, ◌≤◌, ◌<◌}
 use native.Mathlib.Nat.{add-zero, sub_self, one-le-pow, pow-suc, pow-le-pow_right, zero-lt-suc, lt_of_lt_of_le, div-lt_iff_lt-mul}
 use native.Mathlib.Omega.{arith}
-use lib.ListN.{length, get_or, set}
-use lib.Seq.{sets}
+use lib.ListN.{length, get_or, take, drop, set}
+use lib.Seq.{sets, get_or-take, get_or-drop}
 use lib.Arith.{digits_lt}
 use Rattle.quantization.specs.Bytes.{le_bytes, le_word}
-use Rattle.quantization.proofs.Sets.{sets_below, sets_within}
+use Rattle.quantization.proofs.Sets.{sets_below, sets_above, sets_within}
 
 pub length_le : (size n : ℕ) → length (le_bytes size n) ≡ size
 unfolding le_bytes
@@ -31,9 +31,21 @@ word_same s t i j (suc size) h =
     ap (λ (n : ℕ). get_or s n 0) e ∙ h (suc m) (omega arith) ∙ ap (λ (n : ℕ). get_or t n 0) f) in
     rw (here, rest)
 
+-- of a part of the bytes
+pub word_drop : (s : List ℕ) (k at size : ℕ) → le_word (drop k s) at size ≡ le_word s (k + at) size
+word_drop s k at size =
+    word_same (drop k s) s at (k + at) size
+    (λ m l. let e : k + (at + m) ≡ k + at + m = omega arith in get_or-drop k s (at + m) 0 ∙ ap (λ (n : ℕ). get_or s n 0) e)
+
+pub word_take : (s : List ℕ) (k at size : ℕ) → at + size ≤ k → le_word (take k s) at size ≡ le_word s at size
+word_take s k at size h = word_same (take k s) s at at size (λ m l. get_or-take k s (at + m) 0 (omega arith))
+
 -- stores elsewhere don't change it
 pub word_below : (s vs : List ℕ) (i at size : ℕ) → at + size ≤ i → le_word (sets s i vs) at size ≡ le_word s at size
 word_below s vs i at size h = word_same (sets s i vs) s at at size (λ m l. sets_below s vs i (at + m) 0 (omega arith))
+
+pub word_above : (s vs : List ℕ) (i at size : ℕ) → i + length vs ≤ at → le_word (sets s i vs) at size ≡ le_word s at size
+word_above s vs i at size h = word_same (sets s i vs) s at at size (λ m l. sets_above s vs i (at + m) 0 (omega arith))
 
 -- what was stored is read
 pub word_within : (s vs : List ℕ) (i size : ℕ) → i + length vs ≤ length s → size ≤ length vs → le_word (sets s i vs) i size ≡ le_word vs 0 size

@@ -24,6 +24,10 @@ module _ {A : Type 0} where
   sets_below s [] at k d h = refl
   sets_below s (v ∷ vs) at k d h = sets_below (set s at v) vs (suc at) k d (omega arith) ∙ get_or-set_other s at k v d (λ e. omega arith)
 
+  pub sets_above : (s vs : List A) (at k : ℕ) (d : A) → at + length vs ≤ k → get_or (sets s at vs) k d ≡ get_or s k d
+  sets_above s [] at k d h = refl
+  sets_above s (v ∷ vs) at k d h = sets_above (set s at v) vs (suc at) k d (omega arith) ∙ get_or-set_other s at k v d (λ e. omega arith)
+
   pub sets_within : (s vs : List A) (at m : ℕ) (d : A) → at + length vs ≤ length s → m < length vs → get_or (sets s at vs) (at + m) d ≡ get_or vs m d
   sets_within s [] at m d h l = absurd (omega arith)
   sets_within s (v ∷ vs) at zero d h l =

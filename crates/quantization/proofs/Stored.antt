@@ -7,7 +7,7 @@ use native.Mathlib.Nat.{suc-mul, mul-le-mul_right}
 use native.Mathlib.Decide.{dec_lt, dec_le}
 use native.Mathlib.Omega.{arith}
 use lib.Dec.{T, eqb}
-use lib.ListN.{length, get_or, length-append}
+use lib.ListN.{length, get_or, take, drop, length-append}
 use lib.Seq.{sets, length-sets}
 use lib.Ieee.{Float, nan, binary32, to_bits, of_bits, fits, nan_bits}
 use lib.Ieee.Bits.{of_bits-to_bits, to_bits-lt, of_bits-fits, to_bits-of_bits, nan_bits_is}
@@ -18,7 +18,7 @@ use Rattle.sqrt.proofs.Bits.{nan_bits_lem, reads_nan, reads_number}
 use Rattle.quantization.specs.Bf16.{lowered, widened}
 use Rattle.quantization.specs.Stored.{encoded, decoded, restored, comp_bytes, lower_bytes, component_at, components, Fit}
 use Rattle.quantization.proofs.Sets.{sets_append}
-use Rattle.quantization.proofs.Bytes.{length_le, word_below, word_put}
+use Rattle.quantization.proofs.Bytes.{length_le, word_drop, word_take, word_below, word_above, word_put}
 use Rattle.quantization.proofs.Halves.{lowered_lt, half_back}
 
 -- ---- the two modes
@@ -81,10 +81,23 @@ length_components mode s at (suc n) = ap suc (length_components mode s (at + com
 -- ---- one component
 
 module _ (mode : ℕ) (s : List ℕ) where
+  -- of a part of the bytes
+  pub comp_drop : (k at : ℕ) → component_at mode (drop k s) at ≡ component_at mode s (k + at)
+  unfolding component_at
+  comp_drop k at = ap (decoded mode) (word_drop s k at (comp_size mode))
+
+  pub comp_take : (k at : ℕ) → at + comp_size mode ≤ k → component_at mode (take k s) at ≡ component_at mode s at
+  unfolding component_at
+  comp_take k at h = ap (decoded mode) (word_take s k at (comp_size mode) h)
+
   -- stores elsewhere leave it alone
   pub comp_below : (vs : List ℕ) (i at : ℕ) → at + comp_size mode ≤ i → component_at mode (sets s i vs) at ≡ component_at mode s at
   unfolding component_at
   comp_below vs i at h = ap (decoded mode) (word_below s vs i at (comp_size mode) h)
+
+  pub comp_above : (vs : List ℕ) (i at : ℕ) → i + length vs ≤ at → component_at mode (sets s i vs) at ≡ component_at mode s at
+  unfolding component_at
+  comp_above vs i at h = ap (decoded mode) (word_above s vs i at (comp_size mode) h)
 
   -- a stored component is read as what the mode makes of it
   pub comp_back : (at : ℕ) (x : Float) → T (fits binary32 x) → at + comp_size mode ≤ length s → component_at mode (sets s at (comp_bytes mode x)) at ≡ restored mode x
@@ -92,6 +105,15 @@ module _ (mode : ℕ) (s : List ℕ) where
   comp_back at x f h = ap (decoded mode) (word_put s at (comp_size mode) (encoded mode x) h (encoded_lt mode x f))
 
 -- ---- runs of components
+
+-- none, and one more
+pub components_none : (mode : ℕ) (s : List ℕ) (at : ℕ) → components mode s at 0 ≡ []
+unfolding components
+components_none mode s at = refl
+
+pub components_step : (mode : ℕ) (s : List ℕ) (at n : ℕ) → components mode s at (suc n) ≡ component_at mode s at ∷ components mode s (at + comp_size mode) n
+unfolding components
+components_step mode s at n = refl
 
 -- the i-th of them
 pub components_at : (mode : ℕ) (s : List ℕ) (at n i : ℕ) → i < n → get_or (components mode s at n) i nan ≡ component_at mode s (at + i * comp_size mode)
@@ -102,12 +124,47 @@ components_at mode s at (suc n) (suc i) h =
     let e : at + comp_size mode + i * comp_size mode ≡ at + suc i * comp_size mode = omega (arith, suc-mul i (comp_size mode)) in
     components_at mode s (at + comp_size mode) n i (omega arith) ∙ ap (component_at mode s) e
 
+-- bytes that read the same, component by component, are the same run
+pub components_same : (mode : ℕ) (s t : List ℕ) (at to n : ℕ)
+    → ((i : ℕ) → i < n → component_at mode s (at + i * comp_size mode) ≡ component_at mode t (to + i * comp_size mode)) → components mode s at n ≡ components mode t to n
+unfolding components
+components_same mode s t at to zero h = refl
+components_same mode s t at to (suc n) h =
+    let a : at + 0 * comp_size mode ≡ at = omega arith in
+    let b : to + 0 * comp_size mode ≡ to = omega arith in
+    let here : component_at mode s at ≡ component_at mode t to = ap (component_at mode s) (sym a) ∙ h 0 (omega arith) ∙ ap (component_at mode t) b in
+    let rest : components mode s (at + comp_size mode) n ≡ components mode t (to + comp_size mode) n =
+    components_same mode s t (at + comp_size mode) (to + comp_size mode) n
+    (λ i l.
+    let e : at + comp_size mode + i * comp_size mode ≡ at + suc i * comp_size mode = omega (arith, suc-mul i (comp_size mode)) in
+    let f : to + suc i * comp_size mode ≡ to + comp_size mode + i * comp_size mode = omega (arith, suc-mul i (comp_size mode)) in
+    ap (component_at mode s) e ∙ h (suc i) (omega arith) ∙ ap (component_at mode t) f) in
+    rw (here, rest)
+
 -- component i of n has room before the run's end
 pub comp_room : (mode i n : ℕ) → i < n → i * comp_size mode + comp_size mode ≤ n * comp_size mode
 comp_room mode i n h = subst (λ (x : ℕ). x ≤ n * comp_size mode) (suc-mul i (comp_size mode)) (le_times (comp_size mode) (suc i) n h)
   where
     le_times : (w a b : ℕ) → a ≤ b → a * w ≤ b * w
     le_times w a b l = mul-le-mul_right w l
+
+-- of a part of the bytes, as of one slot
+pub components_drop : (mode : ℕ) (s : List ℕ) (k at n : ℕ) → components mode (drop k s) at n ≡ components mode s (k + at) n
+components_drop mode s k at n =
+    components_same mode (drop k s) s at (k + at) n
+    (λ i l. let e : k + (at + i * comp_size mode) ≡ k + at + i * comp_size mode = omega arith in comp_drop mode s k (at + i * comp_size mode) ∙ ap (component_at mode s) e)
+
+pub components_take : (mode : ℕ) (s : List ℕ) (k at n : ℕ) → at + n * comp_size mode ≤ k → components mode (take k s) at n ≡ components mode s at n
+components_take mode s k at n h =
+    components_same mode (take k s) s at at n (λ i l. comp_take mode s k (at + i * comp_size mode) (omega (arith, comp_room mode i n l)))
+
+-- stores elsewhere leave them alone
+pub components_below : (mode : ℕ) (s vs : List ℕ) (i at n : ℕ) → at + n * comp_size mode ≤ i → components mode (sets s i vs) at n ≡ components mode s at n
+components_below mode s vs i at n h =
+    components_same mode (sets s i vs) s at at n (λ j l. comp_below mode s vs i (at + j * comp_size mode) (omega (arith, comp_room mode j n l)))
+
+pub components_above : (mode : ℕ) (s vs : List ℕ) (i at n : ℕ) → i + length vs ≤ at → components mode (sets s i vs) at n ≡ components mode s at n
+components_above mode s vs i at n h = components_same mode (sets s i vs) s at at n (λ j l. comp_above mode s vs i (at + j * comp_size mode) (omega arith))
 
 -- a stored vector is read as what the mode makes of each component
 pub components_back : (mode : ℕ) (s : List ℕ) (at : ℕ) (xs : List Float) → Fit xs → at + length xs * comp_size mode ≤ length s

@@ -4,6 +4,7 @@
 ghost use Rattle.std.specs.Prelude.{◌≡◌, ◌%◌, ◌/◌, length};
 ghost use Rattle.std.specs.Float.{binary32};
 ghost use Rattle.std.specs.Float.Ieee.{of_bits, to_bits};
+ghost use Rattle.recorded.specs.Digits.{digit_of};
 
 use paper::Refusal;
 use std::io;
@@ -40,7 +41,9 @@ pub fn byte(n: u64) -> u8
 }
 
 // What a hexadecimal digit stands for, in lower case; None for any other byte. (By hand: `to_digit` takes upper case too.)
-pub(super) fn digit(b: u8) -> Option<u64> {
+pub(super) fn digit(b: u8) -> Option<u64>
+    ensures { result ≡ digit_of b }
+{
     match b {
         b'0'..=b'9' => Some(u64::from(b - b'0')),
         b'a'..=b'f' => Some(u64::from(b - b'a') + 10),

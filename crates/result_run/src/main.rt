@@ -8,7 +8,7 @@
 //   4  at, then two times a set's k, len, checked, one place with its id and score: prints the refusal of a recall
 #![tactic(auto)]
 
-ghost use Rattle.std.specs.Prelude.{◌≡◌};
+ghost use Rattle.std.specs.Prelude.{◌≡◌, ◌-◌, ◌<◌, ◌≤◌, length, drop};
 ghost use Rattle.result.specs.Sets.{feed_of, fed_or};
 
 use paper::Refusal;
@@ -23,12 +23,16 @@ type Word = [u8; 9];
 // ---- reading
 
 // What a hexadecimal digit stands for, and some number for any other byte. (By hand: `to_digit` has no number for those.)
-fn digit(b: u8) -> u32 {
+fn digit(b: u8) -> u32
+    ensures { result < 16 }
+{
     u32::from((b & 15) + (b >> 6) * 9) & 15
 }
 
 // The next word, and 0 past the end.
-fn number(words: &mut &[Word]) -> u32 {
+fn number(words: &mut &[Word]) -> u32
+    ensures { words.new.now ≡ drop 1 words.old.now }
+{
     let Some((word, rest)) = words.split_first() else {
         return 0;
     };
@@ -38,7 +42,9 @@ fn number(words: &mut &[Word]) -> u32 {
         .fold(0, |value, b| value << 4 | digit(*b))
 }
 
-fn score(words: &mut &[Word]) -> f32 {
+fn score(words: &mut &[Word]) -> f32
+    ensures { words.new.now ≡ drop 1 words.old.now }
+{
     sqrt::of_bits(number(words))
 }
 
@@ -62,7 +68,9 @@ fn fed(set: ResultSet, id: u32, similarity: f32, in_place: bool) -> Result<Resul
 }
 
 // The set becomes the one that k, m and m entries leave; a refusal ends the feeding.
-fn grow(words: &mut &[Word], set: &mut ResultSet, in_place: bool) -> Result<(), Refusal> {
+fn grow(words: &mut &[Word], set: &mut ResultSet, in_place: bool) -> Result<(), Refusal>
+    ensures { length words.new.now ≤ length words.old.now - 2 }
+{
     let k = number(words) as usize;
     let m = number(words) as usize;
     let mut entries: &[Word] = words;
@@ -77,7 +85,9 @@ fn grow(words: &mut &[Word], set: &mut ResultSet, in_place: bool) -> Result<(), 
 }
 
 // A set with six words for k, len, checked, a place, and the id and score there.
-fn made_up(words: &mut &[Word]) -> ResultSet {
+fn made_up(words: &mut &[Word]) -> ResultSet
+    ensures { words.new.now ≡ drop 6 words.old.now }
+{
     let mut set = ResultSet {
         ids: [0; 256],
         sims: [0.0; 256],
@@ -135,7 +145,9 @@ fn yes(b: bool) -> &'static str {
 // ---- cases
 
 // Kinds 0 and 1.
-fn feeding(rt: &impl Print, words: &mut &[Word], in_place: bool) {
+fn feeding(rt: &impl Print, words: &mut &[Word], in_place: bool)
+    ensures { length words.new.now ≤ length words.old.now - 2 }
+{
     let mut set = empty(0);
     match grow(words, &mut set, in_place) {
         Ok(()) => show(rt, set),
@@ -144,7 +156,9 @@ fn feeding(rt: &impl Print, words: &mut &[Word], in_place: bool) {
 }
 
 // Kind 2. Of a refused feeding it takes what it left.
-fn recalling(rt: &impl Print, words: &mut &[Word]) {
+fn recalling(rt: &impl Print, words: &mut &[Word])
+    ensures { length words.new.now ≤ length words.old.now - 5 }
+{
     let at = number(words);
     let mut a = empty(0);
     let mut b = empty(0);
@@ -154,7 +168,9 @@ fn recalling(rt: &impl Print, words: &mut &[Word]) {
 }
 
 // Kind 3.
-fn refusing(rt: &impl Print, words: &mut &[Word]) {
+fn refusing(rt: &impl Print, words: &mut &[Word])
+    ensures { words.new.now ≡ drop 8 words.old.now }
+{
     let set = made_up(words);
     let id = number(words);
     let similarity = score(words);
@@ -165,14 +181,18 @@ fn refusing(rt: &impl Print, words: &mut &[Word]) {
 }
 
 // Kind 4.
-fn recall_refusing(rt: &impl Print, words: &mut &[Word]) {
+fn recall_refusing(rt: &impl Print, words: &mut &[Word])
+    ensures { words.new.now ≡ drop 13 words.old.now }
+{
     let at = number(words);
     let a = made_up(words);
     let b = made_up(words);
     passed_over(println!(rt; "{}", paper::code(a.compute_recall(b, at))));
 }
 
-fn case(rt: &impl Print, words: &mut &[Word]) {
+fn case(rt: &impl Print, words: &mut &[Word])
+    ensures { length words.new.now ≤ length words.old.now - 3 }
+{
     match number(words) {
         0 => feeding(rt, words, false),
         1 => feeding(rt, words, true),

@@ -8,24 +8,43 @@
 // A line is the refusal's number, then what the call gives, then what it leaves in lent memory: floats as patterns, faces as numbers.
 #![tactic(auto)]
 
+ghost use Rattle.std.specs.Prelude.{◌≡◌, nat_abs};
+ghost use Rattle.paper.specs.Refusals.{code_of};
+
 use paper::Refusal;
 use recorded::inner::{fill, float, number, passed_over, show_float, show_floats};
 use std::io::Read;
 
-// A float or a refusal.
-fn put_float(rt: &impl Print, answer: Result<f32, Refusal>) {
-    passed_over(print!(rt; "{}", paper::code(answer)));
+// One face. Answers its absolute value.
+fn put_face(rt: &impl Print, face: i32) -> u32
+    ensures { result ≡ nat_abs face }
+{
+    passed_over(print!(rt; " {face}"));
+    face.unsigned_abs()
+}
+
+// A float or a refusal. Answers the refusal's number.
+fn put_float(rt: &impl Print, answer: Result<f32, Refusal>) -> u32
+    ensures { result ≡ code_of answer }
+{
+    let code = paper::code(answer);
+    passed_over(print!(rt; "{code}"));
     if let Ok(x) = answer {
         show_float(rt, x);
     }
+    code
 }
 
-// A face or a refusal.
-fn put_face(rt: &impl Print, answer: Result<i32, Refusal>) {
-    passed_over(print!(rt; "{}", paper::code(answer)));
+// A face or a refusal. Answers the refusal's number.
+fn put_face_answer(rt: &impl Print, answer: Result<i32, Refusal>) -> u32
+    ensures { result ≡ code_of answer }
+{
+    let code = paper::code(answer);
+    passed_over(print!(rt; "{code}"));
     if let Ok(face) = answer {
-        passed_over(print!(rt; " {face}"));
+        put_face(rt, face);
     }
+    code
 }
 
 // A refusal's number, and what the call leaves.
@@ -51,7 +70,7 @@ fn of_spill(rt: &impl Print, spill: usize, a: &mut [f32]) {
     passed_over(print!(rt; "{}", paper::code(answer)));
     if let Ok(spilled) = answer {
         for face in spilled.faces.iter().take(spilled.count) {
-            passed_over(print!(rt; " {face}"));
+            put_face(rt, *face);
         }
     }
     show_floats(rt, a);
@@ -60,11 +79,17 @@ fn of_spill(rt: &impl Print, spill: usize, a: &mut [f32]) {
 // Puts one case to its call, and writes what is answered. (By the number of the input; `one_case` looks only whether it is 0.)
 fn answer(rt: &impl Print, kind: u64, number: usize, a: &mut [f32], b: &mut [f32]) {
     match kind {
-        1 => put_float(rt, vector::dot_product(a, b)),
-        2 => put_float(rt, vector::distance(a, b)),
+        1 => {
+            put_float(rt, vector::dot_product(a, b));
+        }
+        2 => {
+            put_float(rt, vector::distance(a, b));
+        }
         3 => put_left(rt, vector::normalize(a), a),
         4 => of_basis(rt, number, a, b),
-        5 => put_face(rt, faces::find_face_idx(a)),
+        5 => {
+            put_face_answer(rt, faces::find_face_idx(a));
+        }
         _ => of_spill(rt, number, a),
     }
     passed_over(println!(rt));

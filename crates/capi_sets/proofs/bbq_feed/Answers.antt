@@ -2,7 +2,7 @@
 use mathlib.Core.Path.{sym, ◌∙◌}
 use Rattle.capi_sets.specs.Lists.{outs}
 use Rattle.capi_sets.proofs.Lists.{room}
-use Rattle.capi_sets.proofs.Feeds.{feed_fits, feed_unequal, feed_room, feed_into_lem}
+use Rattle.capi_sets.proofs.Feeds.{handed, feed_fits, feed_unequal, feed_room, feed_into_lem}
 use Rattle.capi_sets.proofs.bbq_feed.Goals as goal
 
 pub returns-then-ids-scores : goal.returns-then-ids-scores
@@ -20,11 +20,12 @@ returns-then-not-room_ok c =
 pub put_fed-requires : goal.put_fed-requires
 put_fed-requires c =
     let a = c.args in
+    let e = handed _ _ _ _ c.feed_new-answer.ensures c.and.ensures in
     let r = room _ _ _ _ _ (sym c.room_ok.ensures ∙ c.if-not-room_ok.false) in
-    record { fits = feed_fits a.k a.ids.now a.scores.now _ _ _ c.feed_new-fed.ensures r.ids r.scores; two = r.counts }
+    record { fits = feed_fits a.k a.ids.now a.scores.now _ _ _ e r.ids r.scores; two = r.counts }
 
 pub returns : goal.returns
 returns c =
     let a = c.args in
     let o = outs a.out_ids.now a.out_scores.now a.counts.now in
-    feed_into_lem a.k a.ids.now a.scores.now o _ _ c.if-ids-scores.false (sym c.room_ok.ensures ∙ c.if-not-room_ok.false) c.feed_new-fed.ensures c.put_fed.ensures
+    feed_into_lem a.k a.ids.now a.scores.now o _ _ c.if-ids-scores.false (sym c.room_ok.ensures ∙ c.if-not-room_ok.false) (handed _ _ _ _ c.feed_new-answer.ensures c.and.ensures) c.put_fed.ensures

@@ -10,4 +10,4 @@ returns c =
     let few : a.size ≤ length (drop a.at a.from.now) = omega (arith, length-drop a.at a.from.now, c.requires) in
     let long : length (take a.size (drop a.at a.from.now)) ≡ a.size = length-take-le a.size _ few in
     let k : a.at + a.size - a.at ≡ a.size = omega arith in
-    rw (sets-eq (take a.size (drop a.at a.from.now)) a.vectors.now a.at (omega (arith, c.requires)), long, append_assoc, c.copy_from_slice.ensures.after, k, drop-drop) refl
+    rw (sets-eq (take a.size (drop a.at a.from.now)) a.vectors.now a.at (omega (arith, c.requires)), long, append_assoc, c.copy_over.ensures, k, drop-drop) refl

@@ -6,4 +6,4 @@ use Rattle.capi_sets.proofs.Feeds.{rest}
 use Rattle.capi_sets.proofs.inner.feed_all.Given as goal
 
 abbrev pub invariant-loop-i : goal.invariant-loop-i
-invariant-loop-i l = feed_all_of l.kept (rest l.i l.ids l.scores) ≡ feed_all_of l.initial.kept (entries (length l.ids) l.ids l.scores)
+invariant-loop-i l = feed_all_of l.set (rest l.i l.ids l.scores) ≡ feed_all_of l.initial.set (entries (length l.ids) l.ids l.scores)

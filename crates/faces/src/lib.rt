@@ -62,12 +62,9 @@ pub fn spill_faces(projection: &mut [f32], spill: usize) -> Result<Spilled, Refu
 {
     check(projection)?;
     let count = picks_for(projection.len(), spill);
-    let mut spilled = Spilled {
-        count,
-        faces: [0; 1024],
-    };
-    inner::pick_faces(projection, count, &mut spilled.faces);
-    Ok(spilled)
+    let mut faces = [0i32; 1024];
+    inner::pick_faces(projection, count, &mut faces);
+    Ok(Spilled { count, faces })
 }
 
 // The laws of this crate, claimed: specs/Laws.antt says each of them.

@@ -1,5 +1,5 @@
 #!/bin/sh
-# test.sh OBJECT: compiles the examples, the tests and README.md's quick start against the object, or the static library, that
+# test.sh OBJECT: looks at what the object needs from outside; compiles the examples, the tests and README.md's quick start against the object, or the static library, that
 # has the calls, and compares what they write; then the same with sanitizers where the compiler has them; then builds and
 # installs the library into a folder of its own and compiles a program by its pkg-config file. These may be set:
 #   CC, CFLAGS, AR   another C compiler, more flags for it, and its archiver
@@ -40,6 +40,12 @@ all() {
     cmp "$room/example.out" example.out
     cmp "$room/example_lent.out" example.out
 }
+
+# README.md says what the library needs from outside
+if command -v nm >/dev/null; then
+    others=$(nm -u "$object" | awk '$1 == "U" && $2 != "memcpy" && $2 != "memset" { print $2 }' | sort -u | tr '\n' ' ')
+    [ -z "$others" ] || fail "the library needs more from outside than memcpy and memset: $others"
+fi
 
 all
 tail -n 1 "$room/test.out" "$room/test_index.out" | grep checks
